@@ -1,0 +1,12 @@
+-- `Assignment::zero` meets its contract.
+use mathlib.Core.Path.{refl}
+use Rattle.words.specs.Value.{value}
+use Rattle.words.proofs.Assignment.zero.Statement.{statement}
+use Rattle.words.proofs.Assignment.zero.Tie as tie
+
+returns : tie.Need-returns
+unfolding value
+returns c = refl
+
+pub zero-spec : {M : Type 1} → statement M
+zero-spec = tie.close (tie.spec returns)

@@ -1,0 +1,206 @@
+-- The laws of bits: toggling changes that bit and no other; distance counts the bits that differ; distances of blocks add up.
+use mathlib.Core.Path.{_≡_, refl, sym, ap, ap₂, _∙_, subst}
+use mathlib.Core.Logic.{⊎-elim}
+use mathlib.Core.Bool.{Bool, true, false, cond, not, xor, Bool·beq, false≢true, true≢false}
+use Prim.Native.Nat.{ℕ, zero, suc, _+_, _-_, _*_, _/_, _%_, _^_, _≤_, _<_, suc-le-suc}
+use native.Mathlib.Nat.{add-suc, suc-inj, div-lt-iff-lt-mul, pow-suc, div-one, zero-div, mod-lt, mul-mod-left, mul-div-cancel, mul-add-mod-self-right, div-add-mod', not-suc-le-zero, le-of-suc-le-suc}
+use native.Mathlib.Numerals.{one-add}
+use native.Mathlib.Omega.{arith}
+use lib.Dec.{eqb, lit<, eqb·zero-suc, eqb·suc-zero, eqb·suc-suc}
+use lib.Bits.{bitXor, differ, xor-step, xor-shr, xor-self, xor-comm, xor-lt, xor-block}
+use lib.Count.{ones, ones-step, ones-cat, ones-le}
+use lib.Pow.{pow-add, pow-lt, pow-pos, shr-shr}
+use borrow.Author.Tests.{eq-eqb, ne-eqb, eqb-true}
+use Rattle.words.specs.Bits.{bit, toggle, distance}
+
+-- how many numbers below n pass the test
+unfoldable pub count : ℕ → (ℕ → Bool) → ℕ
+count zero p = 0
+count (suc n) p = cond (p 0) 1 0 + count n (λ v. p (suc v))
+
+-- ---- one bit
+
+-- a bit above the lowest is a bit of the half
+bit-suc : (m v : ℕ) → bit m (suc v) ≡ bit (m / 2) v
+unfolding bit
+bit-suc m v = ap (λ (x : ℕ). eqb (x % 2) 1) (ap (λ (k : ℕ). m / 2 ^ k) (sym (one-add v)) ∙ sym (shr-shr m 1 v))
+
+bit-low : (m : ℕ) → bit m 0 ≡ eqb (m % 2) 1
+unfolding bit
+bit-low m = ap (λ (x : ℕ). eqb (x % 2) 1) (div-one m)
+
+pub bit-zero : (v : ℕ) → bit 0 v ≡ false
+unfolding bit
+bit-zero v = rw (zero-div (2 ^ v))
+
+-- a power of two has one bit
+bit-power : (v w : ℕ) → bit (2 ^ v) w ≡ eqb v w
+bit-power zero zero = bit-low 1
+bit-power zero (suc w) = bit-suc 1 w ∙ bit-zero w ∙ sym (eqb·zero-suc w)
+bit-power (suc v) zero = rw (bit-low, pow-suc, mul-mod-left, eqb·suc-zero)
+bit-power (suc v) (suc w) = rw (bit-suc, pow-suc, mul-div-cancel (2 ^ v) {n = 2} (lit< tt), eqb·suc-suc) (bit-power v w)
+
+-- the bits of an exclusive or
+bit-xor : (a b v : ℕ) → bit (bitXor a b) v ≡ xor (bit a v) (bit b v)
+unfolding bit xor
+bit-xor a b v = rw (xor-shr, xor-step, mul-add-mod-self-right) (go (a / 2 ^ v % 2) (b / 2 ^ v % 2) (mod-lt _ (lit< tt)) (mod-lt _ (lit< tt)))
+  where
+    go : (x y : ℕ) → x < 2 → y < 2 → eqb (differ x y % 2) 1 ≡ xor (eqb x 1) (eqb y 1)
+    go zero zero p q = refl
+    go zero (suc zero) p q = refl
+    go (suc zero) zero p q = refl
+    go (suc zero) (suc zero) p q = refl
+    go zero (suc (suc y)) p q = absurd (not-suc-le-zero (le-of-suc-le-suc (le-of-suc-le-suc q)))
+    go (suc zero) (suc (suc y)) p q = absurd (not-suc-le-zero (le-of-suc-le-suc (le-of-suc-le-suc q)))
+    go (suc (suc x)) y p q = absurd (not-suc-le-zero (le-of-suc-le-suc (le-of-suc-le-suc p)))
+
+xor-false : (b : Bool) → xor b false ≡ b
+unfolding xor
+xor-false true = refl
+xor-false false = refl
+
+xor-same : (a b : Bool) → xor a b ≡ false → a ≡ b
+unfolding xor
+xor-same true true e = refl
+xor-same true false e = absurd (true≢false e)
+xor-same false true e = absurd (true≢false e)
+xor-same false false e = refl
+
+xor-true : (b : Bool) → xor b true ≡ not b
+unfolding xor
+xor-true true = refl
+xor-true false = refl
+
+-- Toggling changes that bit,
+pub bit-toggle-same : (m v : ℕ) → bit (toggle m v) v ≡ not (bit m v)
+unfolding toggle
+bit-toggle-same m v = bit-xor m (2 ^ v) v ∙ rw (bit-power, eq-eqb v v refl) (xor-true (bit m v))
+
+-- and no other.
+pub bit-toggle-other : (m v w : ℕ) → (v ≡ w → ⊥) → bit (toggle m v) w ≡ bit m w
+unfolding toggle
+bit-toggle-other m v w h = bit-xor m (2 ^ v) w ∙ rw (bit-power, ne-eqb v w h) (xor-false (bit m w))
+
+pub toggle-lt : (n m v : ℕ) → m < 2 ^ n → v < n → toggle m v < 2 ^ n
+unfolding toggle
+toggle-lt n m v h l = xor-lt n m (2 ^ v) h (pow-lt l)
+
+-- half of a number of n + 1 bits has n bits
+half-lt : (n x : ℕ) → x < 2 ^ suc n → x / 2 < 2 ^ n
+half-lt n x h = div-lt-iff-lt-mul (lit< tt) .1 (rw pow-suc at h)
+
+-- Numbers of n bits are equal where their bits are.
+pub bits-ext : (n a b : ℕ) → a < 2 ^ n → b < 2 ^ n → ((v : ℕ) → v < n → bit a v ≡ bit b v) → a ≡ b
+bits-ext zero a b p q h = omega arith
+bits-ext (suc n) a b p q h =
+    let high : a / 2 ≡ b / 2 =
+    bits-ext n (a / 2) (b / 2) (half-lt n a p) (half-lt n b q) (λ v l. sym (bit-suc a v) ∙ h (suc v) (suc-le-suc l) ∙ bit-suc b v) in
+    let low : a % 2 ≡ b % 2 = digit (a % 2) (b % 2) (mod-lt a (lit< tt)) (mod-lt b (lit< tt)) (sym (bit-low a) ∙ h 0 (omega arith) ∙ bit-low b) in
+    omega arith
+  where
+    digit : (x y : ℕ) → x < 2 → y < 2 → eqb x 1 ≡ eqb y 1 → x ≡ y
+    digit zero zero p′ q′ e = refl
+    digit zero (suc y) p′ q′ e =
+        let z : suc y ≡ 1 = omega arith in
+        absurd (false≢true (e ∙ ap (λ (x : ℕ). eqb x 1) z))
+    digit (suc x) zero p′ q′ e =
+        let z : suc x ≡ 1 = omega arith in
+        absurd (true≢false (sym (ap (λ (x : ℕ). eqb x 1) z) ∙ e))
+    digit (suc x) (suc y) p′ q′ e = omega arith
+
+-- ---- counting
+
+pub count-same : (n : ℕ) (p q : ℕ → Bool) → ((v : ℕ) → v < n → p v ≡ q v) → count n p ≡ count n q
+unfolding count
+count-same zero p q h = refl
+count-same (suc n) p q h =
+    ap₂ (λ (b : Bool) (k : ℕ). cond b 1 0 + k) (h 0 (omega arith)) (count-same n (λ v. p (suc v)) (λ v. q (suc v)) (λ v l. h (suc v) (suc-le-suc l)))
+
+-- a test that fails at one more place passes at one less
+count-less : (n v : ℕ) (p q : ℕ → Bool) → v < n → p v ≡ true → q v ≡ false → ((w : ℕ) → (v ≡ w → ⊥) → p w ≡ q w) → count n p ≡ suc (count n q)
+unfolding count
+count-less zero v p q l e f h = absurd (not-suc-le-zero l)
+count-less (suc n) zero p q l e f h =
+    rw (e, f, count-same n (λ v. p (suc v)) (λ v. q (suc v)) (λ v l′. h (suc v) (λ z. let z′ : 0 ≡ suc v = z in omega arith))) (omega arith)
+count-less (suc n) (suc v) p q l e f h =
+    let below : count n (λ w. p (suc w)) ≡ suc (count n (λ w. q (suc w))) =
+    count-less n v (λ w. p (suc w)) (λ w. q (suc w)) (le-of-suc-le-suc l) e f (λ w d. h (suc w) (λ z. d (suc-inj z))) in
+    rw (h 0 (λ z. let z′ : suc v ≡ 0 = z in omega arith), below) (add-suc _ _)
+
+count-none : (n : ℕ) (p : ℕ → Bool) → count n p ≡ 0 → (v : ℕ) → v < n → p v ≡ false
+unfolding count
+count-none zero p e v l = absurd (not-suc-le-zero l)
+count-none (suc n) p e zero l = go (p 0) e
+  where
+    go : (b : Bool) → cond b 1 0 + count n (λ w. p (suc w)) ≡ 0 → b ≡ false
+    go true z = let z′ : ⊥ = omega arith in absurd z′
+    go false z = refl
+count-none (suc n) p e (suc v) l = count-none n (λ w. p (suc w)) (omega arith) v (le-of-suc-le-suc l)
+
+-- ---- distance
+
+ones-zero : ones 0 ≡ 0
+unfolding ones
+ones-zero = refl
+
+ones-count : (n x : ℕ) → x < 2 ^ n → ones x ≡ count n (bit x)
+unfolding count
+ones-count zero x h = let e : x ≡ 0 = omega arith in ap ones e ∙ ones-zero
+ones-count (suc n) x h =
+    ones-step x
+    ∙ ap₂ (λ (d k : ℕ). d + k)
+    (digit (x % 2) (mod-lt x (lit< tt)) ∙ ap (λ (b : Bool). cond b 1 0) (sym (bit-low x)))
+    (ones-count n (x / 2) (half-lt n x h) ∙ count-same n (bit (x / 2)) (λ v. bit x (suc v)) (λ v l. sym (bit-suc x v)))
+  where
+    digit : (d : ℕ) → d < 2 → d ≡ cond (eqb d 1) 1 0
+    digit zero l = refl
+    digit (suc zero) l = refl
+    digit (suc (suc d)) l = absurd (not-suc-le-zero (le-of-suc-le-suc (le-of-suc-le-suc l)))
+
+-- Distance counts the bits that differ below a width.
+pub distance-count : (n a b : ℕ) → a < 2 ^ n → b < 2 ^ n → distance a b ≡ count n (λ v. xor (bit a v) (bit b v))
+unfolding distance
+distance-count n a b p q = ones-count n (bitXor a b) (xor-lt n a b p q) ∙ count-same n _ _ (λ v l. bit-xor a b v)
+
+pub distance-self : (a : ℕ) → distance a a ≡ 0
+unfolding distance
+distance-self a = rw xor-self ones-zero
+
+pub distance-comm : (a b : ℕ) → distance a b ≡ distance b a
+unfolding distance
+distance-comm a b = ap ones (xor-comm a b)
+
+pub distance-le : (n a b : ℕ) → a < 2 ^ n → b < 2 ^ n → distance a b ≤ n
+unfolding distance
+distance-le n a b p q = ones-le n (bitXor a b) (xor-lt n a b p q)
+
+-- Distances of blocks add up.
+pub distance-blocks : (k a b r s : ℕ) → r < 2 ^ k → s < 2 ^ k → distance (a * 2 ^ k + r) (b * 2 ^ k + s) ≡ distance a b + distance r s
+unfolding distance
+distance-blocks k a b r s p q = rw (xor-block k a b r s p q) (ones-cat k (bitXor a b) (bitXor r s) (xor-lt k r s p q))
+
+-- Toggling a bit in which a and b differ brings them nearer by one.
+pub distance-toggle : (n a b v : ℕ) → a < 2 ^ n → b < 2 ^ n → v < n → (bit a v ≡ bit b v → ⊥) → distance a b ≡ suc (distance (toggle a v) b)
+unfolding xor
+distance-toggle n a b v p q l d =
+    distance-count n a b p q
+    ∙ count-less n v (λ w. xor (bit a w) (bit b w)) (λ w. xor (bit (toggle a v) w) (bit b w)) l (differs (bit a v) (bit b v) d)
+    (ap (λ (x : Bool). xor x (bit b v)) (bit-toggle-same a v) ∙ agrees (bit a v) (bit b v) d)
+    (λ w h. ap (λ (x : Bool). xor x (bit b w)) (sym (bit-toggle-other a v w h)))
+    ∙ ap suc (sym (distance-count n (toggle a v) b (toggle-lt n a v p l) q))
+  where
+    differs : (x y : Bool) → (x ≡ y → ⊥) → xor x y ≡ true
+    differs true true h = absurd (h refl)
+    differs true false h = refl
+    differs false true h = refl
+    differs false false h = absurd (h refl)
+
+    agrees : (x y : Bool) → (x ≡ y → ⊥) → xor (not x) y ≡ false
+    agrees true true h = absurd (h refl)
+    agrees true false h = refl
+    agrees false true h = refl
+    agrees false false h = absurd (h refl)
+
+-- Numbers at distance 0 are equal.
+pub distance-zero : (n a b : ℕ) → a < 2 ^ n → b < 2 ^ n → distance a b ≡ 0 → a ≡ b
+distance-zero n a b p q e = bits-ext n a b p q (λ v l. xor-same (bit a v) (bit b v) (count-none n _ (sym (distance-count n a b p q) ∙ e) v l))

@@ -1,0 +1,18 @@
+-- The bits of a natural number, of any width: an assignment, a set of variables and a code word are such numbers.
+use mathlib.Core.Bool.{Bool, cond}
+use Prim.Native.Nat.{ℕ, zero, suc, _+_, _/_, _%_, _^_}
+use lib.Dec.{eqb}
+use lib.Bits.{bitXor}
+use lib.Count.{ones}
+
+-- bit v of m, counted from 0
+unfoldable pub bit : ℕ → ℕ → Bool
+bit m v = eqb (m / 2 ^ v % 2) 1
+
+-- m with bit v changed
+unfoldable pub toggle : ℕ → ℕ → ℕ
+toggle m v = bitXor m (2 ^ v)
+
+-- the Hamming distance: the number of bits in which a and b differ
+unfoldable pub distance : ℕ → ℕ → ℕ
+distance a b = ones (bitXor a b)

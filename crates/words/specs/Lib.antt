@@ -1,0 +1,5 @@
+-- The definitions and laws of the crate words: lists and their tests, the bits of a number, and what an assignment reads as.
+pub mod Lists
+pub mod Bits
+pub mod BitLaws
+pub mod Value
