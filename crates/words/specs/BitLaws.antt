@@ -1,16 +1,15 @@
 -- The laws of bits: toggling changes that bit and no other; distance counts the bits that differ; distances of blocks add up.
-use mathlib.Core.Path.{_≡_, refl, sym, ap, ap₂, _∙_, subst}
-use mathlib.Core.Logic.{⊎-elim}
-use mathlib.Core.Bool.{Bool, true, false, cond, not, xor, Bool·beq, false≢true, true≢false}
-use Prim.Native.Nat.{ℕ, zero, suc, _+_, _-_, _*_, _/_, _%_, _^_, _≤_, _<_, suc-le-suc}
-use native.Mathlib.Nat.{add-suc, suc-inj, div-lt-iff-lt-mul, pow-suc, div-one, zero-div, mod-lt, mul-mod-left, mul-div-cancel, mul-add-mod-self-right, div-add-mod', not-suc-le-zero, le-of-suc-le-suc}
+use mathlib.Core.Path.{_≡_, refl, sym, ap, ap₂, _∙_}
+use mathlib.Core.Bool.{Bool, true, false, cond, not, xor, _&&_, _||_, false≢true, true≢false}
+use Prim.Native.Nat.{ℕ, zero, suc, _+_, _*_, _/_, _%_, _^_, _≤_, _<_, suc-le-suc, min, max}
+use native.Mathlib.Nat.{add-suc, suc-inj, div-lt-iff-lt-mul, pow-suc, div-one, zero-div, mod-lt, mul-mod-left, mul-div-cancel, mul-add-mod-self-right, not-suc-le-zero, le-of-suc-le-suc}
 use native.Mathlib.Numerals.{one-add}
 use native.Mathlib.Omega.{arith}
 use lib.Dec.{eqb, lit<, eqb·zero-suc, eqb·suc-zero, eqb·suc-suc}
-use lib.Bits.{bitXor, differ, xor-step, xor-shr, xor-self, xor-comm, xor-lt, xor-block}
+use lib.Bits.{bitAnd, bitOr, bitXor, differ, and-step, or-step, xor-step, and-shr, or-shr, xor-shr, xor-self, xor-comm, xor-lt, xor-block}
 use lib.Count.{ones, ones-step, ones-cat, ones-le}
-use lib.Pow.{pow-add, pow-lt, pow-pos, shr-shr}
-use borrow.Author.Tests.{eq-eqb, ne-eqb, eqb-true}
+use lib.Pow.{pow-lt, shr-shr}
+use borrow.Author.Tests.{eq-eqb, ne-eqb}
 use Rattle.words.specs.Bits.{bit, toggle, distance}
 
 -- how many numbers below n pass the test
@@ -20,12 +19,18 @@ count (suc n) p = cond (p 0) 1 0 + count n (λ v. p (suc v))
 
 -- ---- one bit
 
+-- a digit, and the test whether it is 1
+digit : (d : ℕ) → d < 2 → d ≡ cond (eqb d 1) 1 0
+digit zero l = refl
+digit (suc zero) l = refl
+digit (suc (suc d)) l = absurd (not-suc-le-zero (le-of-suc-le-suc (le-of-suc-le-suc l)))
+
 -- a bit above the lowest is a bit of the half
-bit-suc : (m v : ℕ) → bit m (suc v) ≡ bit (m / 2) v
+pub bit-suc : (m v : ℕ) → bit m (suc v) ≡ bit (m / 2) v
 unfolding bit
 bit-suc m v = ap (λ (x : ℕ). eqb (x % 2) 1) (ap (λ (k : ℕ). m / 2 ^ k) (sym (one-add v)) ∙ sym (shr-shr m 1 v))
 
-bit-low : (m : ℕ) → bit m 0 ≡ eqb (m % 2) 1
+pub bit-low : (m : ℕ) → bit m 0 ≡ eqb (m % 2) 1
 unfolding bit
 bit-low m = ap (λ (x : ℕ). eqb (x % 2) 1) (div-one m)
 
@@ -40,19 +45,39 @@ bit-power zero (suc w) = bit-suc 1 w ∙ bit-zero w ∙ sym (eqb·zero-suc w)
 bit-power (suc v) zero = rw (bit-low, pow-suc, mul-mod-left, eqb·suc-zero)
 bit-power (suc v) (suc w) = rw (bit-suc, pow-suc, mul-div-cancel (2 ^ v) {n = 2} (lit< tt), eqb·suc-suc) (bit-power v w)
 
--- the bits of an exclusive or
-bit-xor : (a b v : ℕ) → bit (bitXor a b) v ≡ xor (bit a v) (bit b v)
-unfolding bit xor
-bit-xor a b v = rw (xor-shr, xor-step, mul-add-mod-self-right) (go (a / 2 ^ v % 2) (b / 2 ^ v % 2) (mod-lt _ (lit< tt)) (mod-lt _ (lit< tt)))
-  where
-    go : (x y : ℕ) → x < 2 → y < 2 → eqb (differ x y % 2) 1 ≡ xor (eqb x 1) (eqb y 1)
-    go zero zero p q = refl
-    go zero (suc zero) p q = refl
-    go (suc zero) zero p q = refl
-    go (suc zero) (suc zero) p q = refl
-    go zero (suc (suc y)) p q = absurd (not-suc-le-zero (le-of-suc-le-suc (le-of-suc-le-suc q)))
-    go (suc zero) (suc (suc y)) p q = absurd (not-suc-le-zero (le-of-suc-le-suc (le-of-suc-le-suc q)))
-    go (suc (suc x)) y p q = absurd (not-suc-le-zero (le-of-suc-le-suc (le-of-suc-le-suc p)))
+-- the binary digit that a bit is read from
+digit-bit : (a v : ℕ) → a / 2 ^ v % 2 ≡ cond (bit a v) 1 0
+unfolding bit
+digit-bit a v = digit (a / 2 ^ v % 2) (mod-lt (a / 2 ^ v) (lit< tt))
+
+-- An operation that works digit by digit, as f does, works bit by bit, as g does.
+module _ (op f : ℕ → ℕ → ℕ) (g : Bool → Bool → Bool)
+    (shr : (a b v : ℕ) → op a b / 2 ^ v ≡ op (a / 2 ^ v) (b / 2 ^ v))
+    (step : (a b : ℕ) → op a b ≡ op (a / 2) (b / 2) * 2 + f (a % 2) (b % 2))
+    (both : eqb (f 1 1 % 2) 1 ≡ g true true) (left : eqb (f 1 0 % 2) 1 ≡ g true false)
+    (right : eqb (f 0 1 % 2) 1 ≡ g false true) (neither : eqb (f 0 0 % 2) 1 ≡ g false false) where
+  rule : (x y : Bool) → eqb (f (cond x 1 0) (cond y 1 0) % 2) 1 ≡ g x y
+  rule true true = both
+  rule true false = left
+  rule false true = right
+  rule false false = neither
+
+  bit-op : (a b v : ℕ) → bit (op a b) v ≡ g (bit a v) (bit b v)
+  unfolding bit
+  bit-op a b v =
+      ap (λ (x : ℕ). eqb (x % 2) 1) (shr a b v ∙ step (a / 2 ^ v) (b / 2 ^ v))
+      ∙ ap (λ (x : ℕ). eqb x 1) (mul-add-mod-self-right _ 2 _ ∙ ap₂ (λ (x y : ℕ). f x y % 2) (digit-bit a v) (digit-bit b v))
+      ∙ rule (bit a v) (bit b v)
+
+pub bit-xor : (a b v : ℕ) → bit (bitXor a b) v ≡ xor (bit a v) (bit b v)
+unfolding xor
+bit-xor = bit-op bitXor differ xor xor-shr xor-step refl refl refl refl
+
+pub bit-and : (a b v : ℕ) → bit (bitAnd a b) v ≡ (bit a v && bit b v)
+bit-and = bit-op bitAnd min _&&_ and-shr and-step refl refl refl refl
+
+pub bit-or : (a b v : ℕ) → bit (bitOr a b) v ≡ (bit a v || bit b v)
+bit-or = bit-op bitOr max _||_ or-shr or-step refl refl refl refl
 
 xor-false : (b : Bool) → xor b false ≡ b
 unfolding xor
@@ -151,11 +176,6 @@ ones-count (suc n) x h =
     ∙ ap₂ (λ (d k : ℕ). d + k)
     (digit (x % 2) (mod-lt x (lit< tt)) ∙ ap (λ (b : Bool). cond b 1 0) (sym (bit-low x)))
     (ones-count n (x / 2) (half-lt n x h) ∙ count-same n (bit (x / 2)) (λ v. bit x (suc v)) (λ v l. sym (bit-suc x v)))
-  where
-    digit : (d : ℕ) → d < 2 → d ≡ cond (eqb d 1) 1 0
-    digit zero l = refl
-    digit (suc zero) l = refl
-    digit (suc (suc d)) l = absurd (not-suc-le-zero (le-of-suc-le-suc (le-of-suc-le-suc l)))
 
 -- Distance counts the bits that differ below a width.
 pub distance-count : (n a b : ℕ) → a < 2 ^ n → b < 2 ^ n → distance a b ≡ count n (λ v. xor (bit a v) (bit b v))

@@ -1,6 +1,6 @@
 -- The bits of a natural number, of any width: an assignment, a set of variables and a code word are such numbers.
-use mathlib.Core.Bool.{Bool, cond}
-use Prim.Native.Nat.{ℕ, zero, suc, _+_, _/_, _%_, _^_}
+use mathlib.Core.Bool.{Bool}
+use Prim.Native.Nat.{ℕ, _/_, _%_, _^_}
 use lib.Dec.{eqb}
 use lib.Bits.{bitXor}
 use lib.Count.{ones}

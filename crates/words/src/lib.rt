@@ -1,6 +1,6 @@
 // The bits of an assignment, and the two records that every layer above shares.
 ghost use mathlib.Core.Path.{_≡_};
-ghost use Prim.Native.Nat.{_<_};
+ghost use Prim.Native.Nat.{_+_, _*_, _^_, _<_};
 ghost use Rattle.words.specs.Bits.{bit, toggle, distance};
 ghost use Rattle.words.specs.Value.{width, value};
 
@@ -36,6 +36,16 @@ impl Assignment {
     {
         Assignment {
             word: self.word ^ (1u32 << v),
+        }
+    }
+
+    // The bits of word above the lowest `shift` bits, which are self's.
+    pub fn joined(self, word: u32, shift: u32) -> Assignment
+        requires { ⌜ (shift < width) × (value self < 2 ^ shift) × (word * 2 ^ shift < 2 ^ width) ⌝ }
+        ensures { λ r. ⌜ value r ≡ word * 2 ^ shift + value self ⌝ }
+    {
+        Assignment {
+            word: self.word | (word << shift),
         }
     }
 

@@ -1,0 +1,74 @@
+-- A formula in conjunctive normal form: what an accepted sheet means (paper 01, "The sheet").
+use mathlib.Core.Path.{_≡_}
+use mathlib.Core.Bool.{Bool, true, cond, not, _&&_, Bool·beq}
+use mathlib.Core.List.{List, [], _∷_}
+use Prim.Native.Nat.{ℕ, _+_, _-_, _*_, _/_, _%_, _^_, _≤_, _<_}
+use lib.Dec.{eqb}
+use lib.ListN.{length}
+use Rattle.words.specs.Lists.{In, some, every}
+use Rattle.words.specs.Bits.{bit}
+use Rattle.words.specs.Value.{width}
+
+-- A literal (the paper's wish): a variable (coupon), 1 to n, asked to be 1 (pay) or 0 (hold).
+pub record Literal : Type 0 where
+  pub variable : ℕ
+  pub positive : Bool
+
+-- A clause (term): a list of literals.
+abbrev pub Clause : Type 0
+Clause = List Literal
+
+-- A formula: the batch number, the number n of variables, and the clauses in sheet order.
+pub record Formula : Type 0 where
+  pub batch : ℕ
+  pub n : ℕ
+  pub clauses : List Clause
+
+-- the bit of an assignment (marks) that belongs to a literal's variable
+unfoldable pub place : Literal → ℕ
+place l = l .variable - 1
+
+-- A positive literal is met by 1, a negative one by 0.
+unfoldable pub met : ℕ → Literal → Bool
+met m l = Bool·beq (bit m (place l)) (l .positive)
+
+-- A clause is true if a literal in it is met: the empty clause never is.
+unfoldable pub true? : ℕ → Clause → Bool
+true? m c = some (met m) c
+
+-- Every clause is true: m is a model.
+unfoldable pub allTrue : ℕ → List Clause → Bool
+allTrue m cs = every (true? m) cs
+
+-- ---- which formulas a sheet can hold
+
+-- a literal of the clause names the variable v
+unfoldable pub names : ℕ → Clause → Bool
+names v c = some (λ l. eqb (l .variable) v) c
+
+-- no variable stands twice in the clause
+unfoldable pub once : Clause → Bool
+once [] = true
+once (l ∷ c) = not (names (l .variable) c) && once c
+
+-- A clause of at most 8 literals over the variables 1 to n, none of them twice.
+pub record WellFormedClause (n : ℕ) (c : Clause) : Type 0 where
+  pub short : length c ≤ 8
+  pub known : (l : Literal) → In l c → (1 ≤ l .variable) × (l .variable ≤ n)
+  pub once : once c ≡ true
+
+-- A batch number of 32 bits, at most as many variables as an assignment has room for, at most 1,024 clauses.
+pub record WellFormed (f : Formula) : Type 0 where
+  pub batch : f .batch < 2 ^ 32
+  pub variables : f .n ≤ width
+  pub clauses : length (f .clauses) ≤ 1024
+  pub each : (c : Clause) → In c (f .clauses) → WellFormedClause (f .n) c
+
+-- ---- the word that stands for a literal on the sheet
+
+-- Bit 0 is 0 for a positive and 1 for a negative literal; the bits above it are the variable.
+unfoldable pub literalWord : Literal → ℕ
+literalWord l = 2 * l .variable + cond (l .positive) 0 1
+
+unfoldable pub literalOf : ℕ → Literal
+literalOf w = record { variable = w / 2; positive = eqb (w % 2) 0 }
