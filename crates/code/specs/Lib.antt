@@ -1,0 +1,15 @@
+-- The definitions and laws of the crate code.
+pub mod Covering
+pub mod Code
+pub mod Volume
+pub mod Operations
+pub mod Table
+pub mod Machine
+pub mod Keeping
+pub mod CodeLaws
+pub mod VolumeLaws
+pub mod FloorLaws
+pub mod TableLaws
+pub mod OperationLaws
+pub mod MachineLaws
+pub mod GrowLaws
