@@ -1,0 +1,30 @@
+-- `numbers` meets its contract: the numbers of each case are those of the definition.
+use mathlib.Core.Path.{refl}
+use borrow.Author.Needs.{needs}
+use Rattle.alike.specs.Alike.{numbersOf}
+use Rattle.alike.proofs.numbers.Statement.{statement}
+use Rattle.alike.proofs.numbers.Tie as tie
+
+enum-told : tie.Need-enum-told
+enum-told c = search needs
+
+enum-told-2 : tie.Need-enum-told-2
+enum-told-2 c = search needs
+
+enum-known-of : tie.Need-enum-known-of
+enum-known-of c = search needs
+
+returns : tie.Need-returns
+unfolding numbersOf
+returns c = rw (c .enum-told .given .1) refl
+
+returns-2 : tie.Need-returns-2
+unfolding numbersOf
+returns-2 c = rw (c .enum-told2 .given .1) refl
+
+returns-3 : tie.Need-returns-3
+unfolding numbersOf
+returns-3 c = rw (c .before .of .given .1) refl
+
+pub numbers-spec : {M : Type 1} → statement M
+numbers-spec = tie.close (tie.spec enum-told enum-told-2 enum-known-of returns returns-2 returns-3)

@@ -1,0 +1,48 @@
+-- `numbers` meets its contract, variant by variant.
+use mathlib.Core.Path.{_∙_}
+use borrow.Author.Needs.{needs}
+use Rattle.words.specs.Value.{value}
+use Rattle.engine.specs.Answers.{numbersOf, replyOf}
+use Rattle.engine.specs.Machine.{verdictIn, answerRead}
+use Rattle.engine.proofs.numbers.Statement.{statement}
+use Rattle.engine.proofs.numbers.Tie as tie
+
+enum-known-verdict : tie.Need-enum-known-verdict
+enum-known-verdict c = search needs
+
+counted-requires : tie.Need-counted-requires
+counted-requires c κs = search needs
+
+enum-known-verdict-2 : tie.Need-enum-known-verdict-2
+enum-known-verdict-2 c = search needs
+
+counted-requires-2 : tie.Need-counted-requires-2
+counted-requires-2 c κs = search needs
+
+enum-known-verdict-3 : tie.Need-enum-known-verdict-3
+enum-known-verdict-3 c = search needs
+
+counted-requires-3 : tie.Need-counted-requires-3
+counted-requires-3 c κs = search needs
+
+enum-known-verdict-4 : tie.Need-enum-known-verdict-4
+enum-known-verdict-4 c = search needs
+
+returns : tie.Need-returns
+unfolding replyOf numbersOf answerRead verdictIn value
+returns c = c .counted .ensures ∙ rw (c .before .before .verdict .given .1)
+
+returns-2 : tie.Need-returns-2
+unfolding replyOf numbersOf answerRead verdictIn
+returns-2 c = c .counted2 .ensures ∙ rw (c .before .before .verdict2 .given .1)
+
+returns-3 : tie.Need-returns-3
+unfolding replyOf numbersOf answerRead verdictIn
+returns-3 c = c .counted3 .ensures ∙ rw (c .before .before .verdict3 .given .1)
+
+returns-4 : tie.Need-returns-4
+unfolding replyOf numbersOf answerRead verdictIn
+returns-4 c = rw (c .before .verdict4 .given .1)
+
+pub numbers-spec : {M : Type 1} → statement M
+numbers-spec = tie.close (tie.spec enum-known-verdict counted-requires enum-known-verdict-2 counted-requires-2 enum-known-verdict-3 counted-requires-3 enum-known-verdict-4 returns returns-2 returns-3 returns-4)

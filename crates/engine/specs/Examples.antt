@@ -1,0 +1,121 @@
+-- The settled examples of paper 01, proved from the definitions by one joint statement about one table.
+use mathlib.Core.Path.{_≡_, refl}
+use mathlib.Core.Bool.{true, false}
+use mathlib.Core.List.{List, [], _∷_, map}
+use Prim.Native.Nat.{ℕ, _^_}
+use lib.ListN.{take, replicate}
+use Rattle.words.specs.Lists.{some, every, keep, first, span}
+use Rattle.words.specs.Bits.{bit, toggle, distance}
+use Rattle.formula.specs.Formula as Formula
+use Rattle.formula.specs.Formula.{Literal, Clause, Formula}
+use Rattle.formula.specs.Sheet as Sheet
+use Rattle.formula.specs.Sheet.{encode}
+use Rattle.code.specs.declared.Answer.{Answer}
+use Rattle.code.specs.declared.Answer.the-variants.{Number, Refused}
+use Rattle.code.specs.Code as Code
+use Rattle.code.specs.Volume as Volume
+use Rattle.code.specs.Operations as Operations
+use Rattle.code.specs.Operations.{codeAnswer, codeTable, volumeAnswer, floorAnswer}
+use Rattle.search.specs.Explore as Explore
+use Rattle.search.specs.Run as Search
+use Rattle.engine.specs.declared.Reply.{Reply}
+use Rattle.engine.specs.Answers as Answers
+use Rattle.engine.specs.Answers.{replyTo, CLEAR, NONE, SPENT}
+
+-- a positive and a negative literal
+abbrev pos : ℕ → Literal
+pos v = record { variable = v; positive = true }
+
+abbrev neg : ℕ → Literal
+neg v = record { variable = v; positive = false }
+
+-- What is asked of the library: a run, by its plan, budget and sheet; a code, a volume or a floor, by length and radius.
+pub data Question : Type 0 where
+  run-of : (size radius budget : ℕ) → Formula → Question
+  code-of : (t s : ℕ) → Question
+  volume-of : (t s : ℕ) → Question
+  floor-of : (t s : ℕ) → Question
+
+-- the numbers of an answer
+numbers : Reply → List ℕ
+numbers r = r .verdict ∷ r .batch ∷ r .marks ∷ r .calls ∷ r .number ∷ r .place ∷ []
+
+answerNumbers : Answer → List ℕ
+answerNumbers (Number n) = n ∷ []
+answerNumbers (Refused r) = r .number ∷ r .place ∷ []
+
+-- the words of a code that was written to a table of zeros
+wordsIn : Answer → List ℕ → List ℕ
+wordsIn (Number n) table = take n table
+wordsIn (Refused r) table = []
+
+-- The library's answer, in numbers: of a code its words.
+pub ask : Question → List ℕ
+ask (run-of size radius budget f) = numbers (replyTo (record { size = size; radius = radius }) budget (encode f))
+ask (code-of t s) = let table : List ℕ = replicate (2 ^ t) 0 in wordsIn (codeAnswer t s table) (codeTable t s table)
+ask (volume-of t s) = answerNumbers (volumeAnswer t s)
+ask (floor-of t s) = answerNumbers (floorAnswer t s)
+
+-- ---- the table
+
+-- a sheet of batch 0
+abbrev sheet : ℕ → List Clause → Formula
+sheet n cs = record { batch = 0; n = n; clauses = cs }
+
+abbrev opposites : Formula
+opposites = sheet 1 ((pos 1 ∷ []) ∷ (neg 1 ∷ []) ∷ [])
+
+abbrev all-four : Formula
+all-four = sheet 2 ((pos 1 ∷ pos 2 ∷ []) ∷ (pos 1 ∷ neg 2 ∷ []) ∷ (neg 1 ∷ pos 2 ∷ []) ∷ (neg 1 ∷ neg 2 ∷ []) ∷ [])
+
+abbrev the-clear : ℕ → ℕ → List ℕ
+the-clear marks calls = CLEAR ∷ 0 ∷ marks ∷ calls ∷ 0 ∷ 0 ∷ []
+
+abbrev the-none : ℕ → List ℕ
+the-none calls = NONE ∷ 0 ∷ 0 ∷ calls ∷ 0 ∷ 0 ∷ []
+
+abbrev the-spent : ℕ → List ℕ
+the-spent calls = SPENT ∷ 0 ∷ 0 ∷ calls ∷ 0 ∷ 0 ∷ []
+
+pub record Row : Type 0 where
+  pub question : Question
+  pub answer : List ℕ
+
+abbrev row : Question → List ℕ → Row
+row q a = record { question = q; answer = a }
+
+pub examples : List Row
+examples =
+    row (run-of 3 1 1 (sheet 0 [])) (the-clear 0 1)
+    ∷ row (run-of 3 1 9 (sheet 0 ([] ∷ []))) (the-none 1)
+    ∷ row (run-of 3 1 9 (sheet 3 ((pos 1 ∷ pos 2 ∷ []) ∷ (neg 1 ∷ neg 3 ∷ []) ∷ (neg 3 ∷ []) ∷ []))) (the-clear 1 2)
+    ∷ row (run-of 1 1 2 opposites) (the-none 2)
+    ∷ row (run-of 1 1 1 opposites) (the-spent 1)
+    ∷ row (run-of 1 0 2 opposites) (the-none 2)
+    ∷ row (run-of 2 1 6 all-four) (the-none 6)
+    ∷ row (run-of 2 2 5 all-four) (the-none 5)
+    ∷ row (code-of 2 1) (0 ∷ 1 ∷ [])
+    ∷ row (code-of 3 1) (0 ∷ 7 ∷ [])
+    ∷ row (code-of 4 1) (0 ∷ 7 ∷ 8 ∷ 15 ∷ [])
+    ∷ row (volume-of 4 2) (11 ∷ [])
+    ∷ row (volume-of 12 6) (2510 ∷ [])
+    ∷ row (floor-of 4 1) (4 ∷ [])
+    ∷ []
+
+-- Each answer is the one that the definitions give.
+pub examples-hold : map (λ r. ask (r .question)) examples ≡ map (λ r. r .answer) examples
+unfolding examples ask numbers answerNumbers wordsIn
+    some every keep first span bit toggle distance
+    Formula.place Formula.met Formula.true? Formula.allTrue Formula.names Formula.literalWord Formula.literalOf
+    Sheet.wordOf Sheet.words Sheet.kind Sheet.value Sheet._>>=_ Sheet._>>_ Sheet.refuse-when Sheet.take-word Sheet.take-number Sheet.take-literal
+    Sheet.take-literals Sheet.take-clause Sheet.take-clauses Sheet.take-header Sheet.take-formula Sheet.parse
+    Sheet.word Sheet.literalWords Sheet.clauseWords Sheet.formulaWords Sheet.bytes encode
+    Code.wordsOf Code.near Code.gain Code.beats Code.best Code.chosen Code.without Code.greedy Code.code Volume.choose Volume.volume Volume.floor
+    Operations.coded? Operations.fits? codeAnswer Operations.written codeTable Operations.measured? volumeAnswer floorAnswer
+    Explore.calls Explore.plus Explore.after Explore.try Explore.call Explore.explore Explore.reading Explore.isFlipped Explore.flip Explore.isTried
+    Explore.tried Explore.branch Explore.firstFalse Explore.firstFalseRule Explore.ballTree Explore.ballSearch
+    Search.blockOf Search.shortBlock Search.blocks Search.summedRadius Search.centreCount Search.centreAt Search.searchOf Search.ball Search.run
+    Search.whole Search.answer Search.answerOf
+    Answers.refusal Answers.verdictOf Answers.decided Answers.answerTo Answers.numbersOf Answers.replyOf replyTo
+    lib.Count.ones lib.Count.onesIn
+examples-hold = refl

@@ -1,0 +1,63 @@
+-- `put_word` meets its contract: its four stores are `stored`.
+use mathlib.Core.Path.{_∙_}
+use native.Mathlib.Omega.{arith}
+use Rattle.planes.specs.PlaneLaws.{stored-length, stored-same, stored-other}
+use Rattle.planes.proofs.put_word.Statement.{statement}
+use Rattle.planes.proofs.put_word.Tie as tie
+
+mul-planes : tie.Need-mul-planes
+mul-planes c = omega arith
+
+element-write-planes : tie.Need-element-write-planes
+element-write-planes c = omega arith
+
+add-planes : tie.Need-add-planes
+add-planes c = omega arith
+
+mul-planes-2 : tie.Need-mul-planes-2
+mul-planes-2 c = omega arith
+
+element-write-planes-2 : tie.Need-element-write-planes-2
+element-write-planes-2 c = omega arith
+
+add-planes-2 : tie.Need-add-planes-2
+add-planes-2 c = omega arith
+
+mul-planes-3 : tie.Need-mul-planes-3
+mul-planes-3 c = omega arith
+
+element-write-planes-3 : tie.Need-element-write-planes-3
+element-write-planes-3 c = omega arith
+
+add-planes-3 : tie.Need-add-planes-3
+add-planes-3 c = omega arith
+
+mul-planes-4 : tie.Need-mul-planes-4
+mul-planes-4 c = omega arith
+
+element-write-planes-4 : tie.Need-element-write-planes-4
+element-write-planes-4 c = omega arith
+
+returns : tie.Need-returns
+returns c =
+    let xs = c .args .planes .now in
+    let w = c .args .w in
+    let p = c .args .word in
+    (stored-length xs w p ∙ c .pre .1, (stored-same xs w p (c .pre .0) (c .pre .1), stored-other xs w p (c .pre .0)))
+
+pub put-word-spec : {M : Type 1} → statement M
+put-word-spec =
+    tie.close
+    (tie.spec
+    mul-planes
+    element-write-planes
+    add-planes
+    mul-planes-2
+    element-write-planes-2
+    add-planes-2
+    mul-planes-3
+    element-write-planes-3
+    add-planes-3
+    mul-planes-4
+    element-write-planes-4
+    returns)

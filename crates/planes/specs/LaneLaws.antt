@@ -1,0 +1,101 @@
+-- The laws of bits of a machine word: each word operation acts on each bit apart, and where the lowest bit that is set stands.
+use mathlib.Core.Path.{_≡_, refl, sym, ap, _∙_}
+use mathlib.Core.Bool.{Bool, true, false, not}
+use Prim.Native.Nat.{ℕ, zero, suc, _-_, _*_, _/_, _%_, _^_, _≤_, _<_, suc-le-suc}
+use native.Mathlib.Nat.{mod-lt, not-suc-le-zero, le-of-suc-le-suc, div-eq-of-lt, pow-suc, one-mul, sub-zero}
+use native.Mathlib.Omega.{arith}
+use lib.Dec.{eqb, leb, lit<}
+use lib.Count.{trailingZeros, under}
+use lib.Pow.{pow-pos, pow-mono, pow-lt, shl-exact}
+use borrow.Author.Tests.{eq-eqb, ne-eqb, eqb-true, eqb-false, le-leb, lt-leb, leb-true, leb-false}
+use Rattle.words.specs.Bits.{bit, toggle}
+use Rattle.words.specs.BitLaws.{bit-zero, bit-suc, bit-low, bit-toggle-same, bit-toggle-other}
+pub use Rattle.words.specs.BitLaws.{bit-xor, bit-and, bit-or}
+
+-- ---- tests of numbers
+
+-- a remainder by 2 is 0 or 1
+pub by-parity : (P : ℕ → Type 0) (x : ℕ) → (x % 2 ≡ 0 → P 0) → (x % 2 ≡ 1 → P 1) → P (x % 2)
+by-parity P x even odd = go (x % 2) refl (mod-lt x (lit< tt))
+  where
+    go : (d : ℕ) → x % 2 ≡ d → d < 2 → P d
+    go zero e l = even e
+    go (suc zero) e l = odd e
+    go (suc (suc d)) e l = absurd (not-suc-le-zero (le-of-suc-le-suc (le-of-suc-le-suc l)))
+
+-- tests of facts that follow from each other
+pub same-test : (a b c d : ℕ) → (a ≡ b → c ≡ d) → (c ≡ d → a ≡ b) → eqb a b ≡ eqb c d
+same-test a b c d f g = go (eqb a b) refl
+  where
+    go : (t : Bool) → eqb a b ≡ t → t ≡ eqb c d
+    go true e = sym (eq-eqb c d (f (eqb-true a b e)))
+    go false e = sym (ne-eqb c d (λ q. eqb-false a b e (g q)))
+
+pub same-order : (a b c d : ℕ) → (a ≤ b → c ≤ d) → (b < a → d < c) → leb a b ≡ leb c d
+same-order a b c d f g = go (leb a b) refl
+  where
+    go : (t : Bool) → leb a b ≡ t → t ≡ leb c d
+    go true e = sym (le-leb c d (f (leb-true a b e)))
+    go false e = sym (lt-leb c d (g (leb-false a b e)))
+
+-- ---- one bit of a word operation
+
+-- the complement in k bits
+pub bit-not : (k x v : ℕ) → x < 2 ^ k → v < k → bit (2 ^ k - 1 - x) v ≡ not (bit x v)
+bit-not zero x v h l = absurd (not-suc-le-zero l)
+bit-not (suc k) x zero h l =
+    let y = 2 ^ suc k - 1 - x in
+    let odd : y % 2 ≡ 1 - x % 2 = omega (arith, pow-suc 2 k) in
+    rw (bit-low y, bit-low x, odd) (by-parity (λ a. eqb (1 - a) 1 ≡ not (eqb a 1)) x (λ e. refl) (λ e. refl))
+bit-not (suc k) x (suc v) h l =
+    let y = 2 ^ suc k - 1 - x in
+    let half : y / 2 ≡ 2 ^ k - 1 - x / 2 = omega (arith, pow-suc 2 k) in
+    rw (bit-suc y v, bit-suc x v, half) (bit-not k (x / 2) v (omega (arith, pow-suc 2 k)) (le-of-suc-le-suc l))
+
+-- ---- 1 shifted
+
+pub one-shl : (s : ℕ) → s < 64 → 1 * 2 ^ s % 2 ^ 64 ≡ 2 ^ s
+one-shl s h = shl-exact {a = 1} 1 s 64 (lit< tt) (omega arith) ∙ one-mul (2 ^ s)
+
+-- one bit
+pub bit-power : (v u : ℕ) → bit (2 ^ v) u ≡ eqb u v
+unfolding toggle
+bit-power v u = go (eqb u v) refl
+  where
+    go : (b : Bool) → eqb u v ≡ b → bit (2 ^ v) u ≡ b
+    go true e = ap (bit (2 ^ v)) (eqb-true u v e) ∙ bit-toggle-same 0 v ∙ ap not (bit-zero v)
+    go false e = bit-toggle-other 0 v u (λ q. eqb-false u v e (sym q)) ∙ bit-zero u
+
+-- all bits from s on
+pub bit-from : (s j : ℕ) → s < 64 → j < 64 → bit (2 ^ 64 - 1 - (2 ^ s - 1)) j ≡ leb s j
+bit-from s j h l = bit-not 64 (2 ^ s - 1) j (omega (arith, pow-lt h, pow-pos s)) l ∙ go (leb s j) refl
+  where
+    high : (x : ℕ) → x < 2 ^ j → bit x j ≡ false
+    high x below = unfold bit in rw (div-eq-of-lt below)
+
+    go : (b : Bool) → leb s j ≡ b → not (bit (2 ^ s - 1) j) ≡ b
+    go true e = ap not (high (2 ^ s - 1) (omega (arith, pow-pos s, pow-mono (leb-true s j e))))
+    go false e =
+        ap not (ap (λ (x : ℕ). bit x j) (sym (sub-zero (2 ^ s - 1))) ∙ bit-not s 0 j (pow-pos s) (leb-false s j e) ∙ ap not (bit-zero j))
+
+-- ---- the lowest bit that is set
+
+pub trailing-below : (k x j : ℕ) → j < trailingZeros k x → bit x j ≡ false
+unfolding trailingZeros
+trailing-below zero x j l = absurd (not-suc-le-zero l)
+trailing-below (suc k) x j l = go (trailing-below k (x / 2)) (x % 2) refl j l
+  where
+    go : ((i : ℕ) → i < trailingZeros k (x / 2) → bit (x / 2) i ≡ false) → (d : ℕ) → x % 2 ≡ d → (i : ℕ) →
+        i < under d (trailingZeros k (x / 2)) → bit x i ≡ false
+    go below zero e zero h = rw (bit-low, e)
+    go below zero e (suc i) h = bit-suc x i ∙ below i (le-of-suc-le-suc h)
+    go below (suc d) e i h = absurd (not-suc-le-zero h)
+
+pub trailing-at : (k x : ℕ) → (x ≡ 0 → ⊥) → x < 2 ^ k → (trailingZeros k x < k) × (bit x (trailingZeros k x) ≡ true)
+unfolding trailingZeros
+trailing-at zero x p h = absurd (p (omega arith))
+trailing-at (suc k) x p h =
+    let t = trailingZeros k (x / 2) in
+    by-parity (λ d. (under d t < suc k) × (bit x (under d t) ≡ true)) x
+    (λ e. let b = trailing-at k (x / 2) (λ q. p (omega arith)) (omega (arith, pow-suc 2 k)) in (suc-le-suc (b .0), bit-suc x t ∙ b .1))
+    (λ e. (omega arith, rw (bit-low, e)))

@@ -1,0 +1,171 @@
+-- The laws of planes: `moved` counts one up or down, a word of planes stored in its array, and the lowest lane with count 0.
+use mathlib.Core.Path.{_≡_, refl, sym, _∙_}
+use mathlib.Core.Bool.{Bool, true, false, not, xor, _&&_, _||_, true≢false}
+use mathlib.Core.List.{List}
+use Prim.Native.Nat.{ℕ, _+_, _-_, _*_, _/_, _%_, _^_, _≤_, _<_}
+use native.Mathlib.Omega.{arith}
+use lib.Dec.{eqb, ltb}
+use lib.ListN.{length, getD, set, length-set}
+use lib.Seq.{getD-set-same, getD-set-other}
+use lib.Count.{trailingZeros, trailing-le}
+use borrow.Author.Tests.{eq-eqb, ne-eqb, eqb-true, ltb-true, ltb-false}
+use borrow.Author.Count.{below-more}
+use Rattle.words.specs.Bits.{bit}
+use Rattle.words.specs.BitLaws.{bit-zero}
+use Rattle.planes.specs.declared.Planes.{Planes}
+use Rattle.planes.specs.Planes.{digit, number, countIn, planesAt, countAt}
+use Rattle.planes.specs.LaneLaws.{same-test, trailing-below, trailing-at}
+
+-- ---- one more or one less
+
+-- One digit: where c is set, the digit a changes, up or (where d is set) down, and what is left to do goes to the next digit.
+digit-moves : (a c d : Bool) →
+    digit (xor a c) + digit (c && d) + 2 * digit ((xor a d && c) && not d) ≡ digit a + digit (c && not d) + 2 * digit ((xor a d && c) && d)
+unfolding xor
+digit-moves true true true = refl
+digit-moves true true false = refl
+digit-moves true false true = refl
+digit-moves true false false = refl
+digit-moves false true true = refl
+digit-moves false true false = refl
+digit-moves false false true = refl
+digit-moves false false false = refl
+
+-- up and down at once are no change
+change-moves : (u d : Bool) → digit (xor u d && d) + digit u ≡ digit (xor u d && not d) + digit d
+unfolding xor
+change-moves true true = refl
+change-moves true false = refl
+change-moves false true = refl
+change-moves false false = refl
+
+digit-le : (b : Bool) → digit b ≤ 1
+digit-le true = omega arith
+digit-le false = omega arith
+
+-- Four digits: where u is set the number counts one up, where d is set one down, to n.
+module _ (a b c e u d : Bool) where
+  abbrev change0 : Bool
+  change0 = xor u d
+
+  abbrev change1 : Bool
+  change1 = xor a d && change0
+
+  abbrev change2 : Bool
+  change2 = xor b d && change1
+
+  abbrev change3 : Bool
+  change3 = xor c d && change2
+
+  pub number-moves : (n : ℕ) → n < 16 → n + digit d ≡ number a b c e + digit u → number (xor a change0) (xor b change1) (xor c change2) (xor e change3) ≡ n
+  number-moves n l h =
+      omega
+      (arith, digit-moves a change0 d, digit-moves b change1 d, digit-moves c change2 d, digit-moves e change3 d, change-moves u d, digit-le (xor a change0), digit-le (xor b change1), digit-le (xor c change2), digit-le (xor e change3))
+
+-- a number is 0 where no digit is set
+pub zero-number : (a b c d : Bool) → not (((a || b) || c) || d) ≡ eqb (number a b c d) 0
+zero-number true b c d = sym (ne-eqb (number true b c d) 0 (λ e. omega arith))
+zero-number false true c d = sym (ne-eqb (number false true c d) 0 (λ e. omega arith))
+zero-number false false true d = sym (ne-eqb (number false false true d) 0 (λ e. omega arith))
+zero-number false false false true = refl
+zero-number false false false false = refl
+
+-- Four digits: the number that `number-moves` speaks of is 0 where these digits are.
+pub zero-moves : (a b c e u d : Bool) (n : ℕ) → digit u + digit d ≤ 1 → n + digit d ≡ number a b c e + digit u →
+    eqb (number (xor a d || u) b c e) 0 ≡ eqb n 0
+unfolding xor
+zero-moves a b c e true true n l h = absurd (omega arith)
+zero-moves true b c e true false n l h = same-test (number true b c e) 0 n 0 (λ q. omega arith) (λ q. omega arith)
+zero-moves false b c e true false n l h = same-test (number true b c e) 0 n 0 (λ q. omega arith) (λ q. omega arith)
+zero-moves true b c e false true n l h = same-test (number false b c e) 0 n 0 (λ q. omega arith) (λ q. omega arith)
+zero-moves false b c e false true n l h = same-test (number true b c e) 0 n 0 (λ q. omega arith) (λ q. omega arith)
+zero-moves true b c e false false n l h = same-test (number true b c e) 0 n 0 (λ q. omega arith) (λ q. omega arith)
+zero-moves false b c e false false n l h = same-test (number false b c e) 0 n 0 (λ q. omega arith) (λ q. omega arith)
+
+-- ---- a word of planes in its array
+
+same-planes : {a b c d a′ b′ c′ d′ : ℕ} → a ≡ a′ → b ≡ b′ → c ≡ c′ → d ≡ d′ →
+    _≡_ {A = Planes} (record { p0 = a; p1 = b; p2 = c; p3 = d }) (record { p0 = a′; p1 = b′; p2 = c′; p3 = d′ })
+same-planes e f g h = rw (e, f, g, h)
+
+module _ (xs : List ℕ) (w : ℕ) (p : Planes) where
+  abbrev stored0 : List ℕ
+  stored0 = set xs w (p .p0)
+
+  abbrev stored1 : List ℕ
+  stored1 = set stored0 (w + 16) (p .p1)
+
+  abbrev stored2 : List ℕ
+  stored2 = set stored1 (w + 32) (p .p2)
+
+  abbrev stored : List ℕ
+  stored = set stored2 (w + 48) (p .p3)
+
+  pub stored-length : length stored ≡ length xs
+  stored-length = simp length-set
+
+  -- the places of other words
+  aside : (i : ℕ) → (i % 16 ≡ w % 16 → ⊥) → getD stored i 0 ≡ getD xs i 0
+  aside i d =
+      getD-set-other stored2 (w + 48) i _ 0 (λ e. d (omega arith)) ∙ getD-set-other stored1 (w + 32) i _ 0 (λ e. d (omega arith))
+      ∙ getD-set-other stored0 (w + 16) i _ 0 (λ e. d (omega arith)) ∙ getD-set-other xs w i _ 0 (λ e. d (omega arith))
+
+  module _ (l : w < 16) where
+    pub stored-other : (v : ℕ) → v < 16 → (v ≡ w → ⊥) → planesAt stored v ≡ planesAt xs v
+    unfolding planesAt
+    stored-other v h d =
+        same-planes (aside v (λ e. d (omega arith))) (aside (v + 16) (λ e. d (omega arith))) (aside (v + 32) (λ e. d (omega arith)))
+        (aside (v + 48) (λ e. d (omega arith)))
+
+    pub stored-same : length xs ≡ 64 → planesAt stored w ≡ p
+    unfolding planesAt
+    stored-same h =
+        let room1 : w + 16 < length stored0 = simp length-set (omega arith) in
+        let room2 : w + 32 < length stored1 = simp length-set (omega arith) in
+        let room3 : w + 48 < length stored2 = simp length-set (omega arith) in
+        same-planes
+        (getD-set-other stored2 (w + 48) w _ 0 (λ e. omega arith) ∙ getD-set-other stored1 (w + 32) w _ 0 (λ e. omega arith)
+        ∙ getD-set-other stored0 (w + 16) w _ 0 (λ e. omega arith) ∙ getD-set-same xs w _ 0 (omega arith))
+        (getD-set-other stored2 (w + 48) (w + 16) _ 0 (λ e. omega arith) ∙ getD-set-other stored1 (w + 32) (w + 16) _ 0 (λ e. omega arith)
+        ∙ getD-set-same stored0 (w + 16) _ 0 room1)
+        (getD-set-other stored2 (w + 48) (w + 32) _ 0 (λ e. omega arith) ∙ getD-set-same stored1 (w + 32) _ 0 room2)
+        (getD-set-same stored2 (w + 48) _ 0 room3)
+
+-- What holds of the words below w, and of the word that was stored at w, holds of the words up to w.
+pub words-more : (P : ℕ → Planes → Type 0) (xs ys : List ℕ) (w : ℕ) (p : Planes) → w < 16 → ((v : ℕ) → v < w → P v (planesAt xs v)) →
+    planesAt ys w ≡ p → ((v : ℕ) → v < 16 → (v ≡ w → ⊥) → planesAt ys v ≡ planesAt xs v) → P w p → (v : ℕ) → v < w + 1 → P v (planesAt ys v)
+words-more P xs ys w p l below same other here =
+    below-more (λ v. P v (planesAt ys v)) w (λ v h. rw (other v (omega arith) (λ e. omega arith)) (below v h)) (rw same here)
+
+-- ---- the lowest lane with count 0
+
+-- No lane before word w has count 0, and z has the lanes of word w that have.
+module _ (xs : List ℕ) (w z : ℕ) (before : (i : ℕ) → i < 64 * w → countAt xs i ≡ 0 → ⊥)
+    (zeros : (j : ℕ) → j < 64 → bit z j ≡ eqb (countIn (planesAt xs w) j) 0) where
+  lane-zero : (j : ℕ) → j < 64 → bit z j ≡ eqb (countAt xs (64 * w + j)) 0
+  unfolding countAt
+  lane-zero j l =
+      let high : (64 * w + j) / 64 ≡ w = omega arith in
+      let low : (64 * w + j) % 64 ≡ j = omega arith in
+      rw (high, low) (zeros j l)
+
+  -- no lane of z below t is set
+  lanes-above : (t : ℕ) → t ≤ 64 → ((j : ℕ) → j < t → bit z j ≡ false) → (i : ℕ) → i < 64 * w + t → countAt xs i ≡ 0 → ⊥
+  lanes-above t r clear i l = go (ltb i (64 * w)) refl
+    where
+      go : (b : Bool) → ltb i (64 * w) ≡ b → countAt xs i ≡ 0 → ⊥
+      go true h q = before i (ltb-true i (64 * w) h) q
+      go false h q =
+          let past : 64 * w ≤ i = ltb-false i (64 * w) h in
+          let back : 64 * w + (i - 64 * w) ≡ i = omega arith in
+          true≢false (sym (lane-zero (i - 64 * w) (omega arith) ∙ rw back (eq-eqb (countAt xs i) 0 q)) ∙ clear (i - 64 * w) (omega arith))
+
+  pub zeros-none : z ≡ 0 → (i : ℕ) → i < 64 * (w + 1) → countAt xs i ≡ 0 → ⊥
+  zeros-none e i l = lanes-above 64 (omega arith) (λ j h. rw e (bit-zero j)) i (omega arith)
+
+  pub zeros-lowest : (z ≡ 0 → ⊥) → z < 2 ^ 64 →
+      (trailingZeros 64 z < 64) × (countAt xs (64 * w + trailingZeros 64 z) ≡ 0)
+      × ((i : ℕ) → i < 64 * w + trailingZeros 64 z → countAt xs i ≡ 0 → ⊥)
+  zeros-lowest some fits =
+      let t = trailing-at 64 z some fits in
+      (t .0, eqb-true _ 0 (sym (lane-zero (trailingZeros 64 z) (t .0)) ∙ t .1), lanes-above (trailingZeros 64 z) (trailing-le 64 z) (trailing-below 64 z))
