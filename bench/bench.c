@@ -1,0 +1,126 @@
+/* Times the proved library beside plain C in one run and prints ratios (library / plain C: below 1 is faster than plain C). */
+#include <stdio.h>
+#include <stdlib.h>
+#include <time.h>
+#include "../include/engine.h"
+#include "plain.h"
+
+static uint64_t state = 88172645463325252ull;
+static uint32_t below(uint32_t n)
+{
+    state ^= state << 13, state ^= state >> 7, state ^= state << 17;
+    return (uint32_t)(state >> 16) % n;
+}
+
+static double seconds(void)
+{
+    struct timespec t;
+    clock_gettime(CLOCK_MONOTONIC, &t);
+    return t.tv_sec + t.tv_nsec * 1e-9;
+}
+
+static uint8_t bytes[36876];
+static size_t length;
+
+static void put(uint32_t word)
+{
+    for (int i = 0; i < 4; i++) bytes[length++] = word >> 8 * i;
+}
+
+/* count clauses of c literals over n variables */
+static void make(uint32_t n, uint32_t count, uint32_t c)
+{
+    length = 0;
+    put(3u << 30), put(3u << 30 | 1), put(2u << 30 | n);
+    for (uint32_t i = 0; i < count; i++) {
+        uint32_t used = 0, v;
+        put(1u << 30 | c);
+        for (uint32_t j = 0; j < c; j++) {
+            do v = below(n); while (used >> v & 1);
+            used |= 1u << v;
+            put(2 * (v + 1) + below(2));
+        }
+    }
+}
+
+static const char *verdicts[] = { "refused", "clear", "none", "spent" };
+
+static int search(const char *what, uint32_t b, uint32_t s, uint32_t budget)
+{
+    static struct plain_sheet sheet;
+    struct plain_search plain;
+    double best[2] = { 1e9, 1e9 };
+    struct reply reply = { 0 };
+    int verdict = 0;
+    for (int i = 0; i < 3; i++) {
+        double at = seconds();
+        reply = run(b, s, budget, bytes, length);
+        double mid = seconds();
+        verdict = plain_run(b, s, budget, bytes, length, &plain, &sheet);
+        double end = seconds();
+        if (mid - at < best[0]) best[0] = mid - at;
+        if (end - mid < best[1]) best[1] = end - mid;
+    }
+    int same = reply.verdict == (uint32_t)verdict && reply.calls == plain.calls && (verdict != 1 || reply.marks == plain.found);
+    printf("%-44s %-6s %10u calls  %8.3f s  plain %8.3f s  %6.1f million calls/s  ratio %.2f%s\n", what, verdicts[reply.verdict],
+           reply.calls, best[0], best[1], reply.calls / best[0] / 1e6, best[0] / best[1], same ? "" : "  DIFFERENT ANSWERS");
+    return same;
+}
+
+static int reading(void)
+{
+    static struct plain_sheet sheet;
+    int rounds = 2000, ok = 1;
+    double at = seconds();
+    for (int i = 0; i < rounds; i++) ok &= run(1, 0, 0, bytes, length).verdict == ENGINE_SPENT;
+    double mid = seconds();
+    for (int i = 0; i < rounds; i++) ok &= plain_read(bytes, length, &sheet) == 0;
+    double end = seconds();
+    printf("%-44s %8.1f us  plain (masks only) %8.1f us  ratio %.2f%s\n", "read a sheet of 36,876 bytes, ready to search",
+           (mid - at) / rounds * 1e6, (end - mid) / rounds * 1e6, (mid - at) / (end - mid), ok ? "" : "  DIFFERENT ANSWERS");
+    return ok;
+}
+
+/* The code of length 12, for each radius. */
+static int codes(void)
+{
+    static uint16_t ours[4096], theirs[4096];
+    int ok = 1;
+    for (uint32_t s = 0; s <= 12; s++) {
+        double best[2] = { 1e9, 1e9 };
+        struct code_reply r = { 0 };
+        int words = 0;
+        for (int i = 0; i < 3; i++) {
+            double at = seconds();
+            r = covering_code(12, s, ours, 4096);
+            double mid = seconds();
+            words = plain_code(12, s, theirs);
+            double end = seconds();
+            if (mid - at < best[0]) best[0] = mid - at;
+            if (end - mid < best[1]) best[1] = end - mid;
+        }
+        int same = r.refusal == 0 && r.number == (uint32_t)words && memcmp(ours, theirs, 2 * words) == 0;
+        printf("code (12, %2u): %4u words %32s %8.2f ms  plain %8.2f ms  ratio %.2f%s\n", s, r.number, "", best[0] * 1e3, best[1] * 1e3,
+               best[0] / best[1], same ? "" : "  DIFFERENT ANSWERS");
+        ok &= same;
+    }
+    return ok;
+}
+
+int main(void)
+{
+    int ok = codes();
+    make(32, 160, 3);
+    ok &= search("n 32, 160 clauses of 3, plan 11, 3", 11, 3, 4294967295u);
+    make(32, 700, 5);
+    ok &= search("n 32, 700 clauses of 5, plan 11, 2", 11, 2, 20000000);
+    make(32, 1024, 3);
+    ok &= search("n 32, 1,024 clauses of 3, plan 11, 3", 11, 3, 20000000);
+    make(32, 160, 3);
+    ok &= search("n 32, 160 clauses of 3, plan 8, 0", 8, 0, 20000000);
+    make(32, 900, 8);
+    ok &= search("n 32, 900 clauses of 8, plan 8, 3", 8, 3, 5000000);
+    make(32, 1024, 8);
+    ok &= reading();
+    return !ok;
+}

@@ -1,0 +1,47 @@
+/* Measures the stack that run, alike and covering_code take: each runs on a painted stack, and the paint left is counted.
+   The sheet makes the search as deep as it can be: n 32, blocks of one variable, radius 1. */
+#include <pthread.h>
+#include <stdio.h>
+#include <string.h>
+#include "../include/engine.h"
+
+#define SIZE (1 << 20)
+
+static uint8_t stack[SIZE] __attribute__((aligned(4096)));
+static uint8_t sheet[36876];
+static size_t length;
+static uint16_t table[4096];
+
+static void put(uint32_t word)
+{
+    for (int i = 0; i < 4; i++) sheet[length++] = word >> 8 * i;
+}
+
+static void *do_run(void *unused) { run(1, 1, 1000000, sheet, length); return unused; }
+static void *do_alike(void *unused) { alike(sheet, length, sheet, length); return unused; }
+static void *do_code(void *unused) { covering_code(12, 3, table, 4096); return unused; }
+static void *do_nothing(void *unused) { return unused; }
+
+static size_t used(void *(*work)(void *))
+{
+    pthread_attr_t attributes;
+    pthread_t thread;
+    size_t left = 0;
+    memset(stack, 0xa5, SIZE);
+    pthread_attr_init(&attributes);
+    pthread_attr_setstack(&attributes, stack, SIZE);
+    pthread_create(&thread, &attributes, work, 0);
+    pthread_join(thread, 0);
+    while (left < SIZE && stack[left] == 0xa5) left++;
+    return SIZE - left;
+}
+
+int main(void)
+{
+    put(3u << 30), put(3u << 30), put(2u << 30 | 32);
+    for (uint32_t v = 1; v <= 32; v++) put(1u << 30 | 1), put(2 * v);
+    put(1u << 30);
+    size_t base = used(do_nothing);
+    printf("run %zu bytes, alike %zu bytes, covering_code %zu bytes\n", used(do_run) - base, used(do_alike) - base, used(do_code) - base);
+    return 0;
+}

@@ -1,0 +1,493 @@
+// An independent implementation of paper 01, compared with the proved library on many inputs: long and short, valid and
+// damaged. It shares no code with the crates. It prints how many answers of each kind agreed, and every disagreement.
+
+use std::collections::{BTreeSet, HashMap};
+
+#[repr(C)]
+#[derive(Clone, Copy, Debug, Default, PartialEq)]
+struct Reply {
+    verdict: u32,
+    batch: u32,
+    marks: u32,
+    calls: u32,
+    number: u32,
+    place: u32,
+}
+
+#[repr(C)]
+#[derive(Clone, Copy, Debug, Default, PartialEq)]
+struct AlikeReply {
+    answer: u32,
+    sheet: u32,
+    number: u32,
+    place: u32,
+}
+
+#[repr(C)]
+#[derive(Clone, Copy, Debug, Default, PartialEq)]
+struct CodeReply {
+    refusal: u32,
+    place: u32,
+    number: u32,
+}
+
+mod library {
+    use super::{AlikeReply, CodeReply, Reply};
+    extern "C" {
+        pub fn run(b: u32, s: u32, budget: u32, sheet: *const u8, length: usize) -> Reply;
+        pub fn alike(a: *const u8, a_length: usize, b: *const u8, b_length: usize) -> AlikeReply;
+        pub fn covering_code(t: u32, s: u32, table: *mut u16, cells: usize) -> CodeReply;
+        pub fn ball_volume(t: u32, s: u32) -> CodeReply;
+        pub fn covering_floor(t: u32, s: u32) -> CodeReply;
+    }
+}
+
+fn library_run(plan: (u32, u32), budget: u32, sheet: &[u8]) -> Reply {
+    unsafe { library::run(plan.0, plan.1, budget, sheet.as_ptr(), sheet.len()) }
+}
+
+fn library_alike(a: &[u8], b: &[u8]) -> AlikeReply {
+    unsafe { library::alike(a.as_ptr(), a.len(), b.as_ptr(), b.len()) }
+}
+
+fn library_code(t: u32, s: u32, table: &mut [u16]) -> CodeReply {
+    unsafe { library::covering_code(t, s, table.as_mut_ptr(), table.len()) }
+}
+
+fn library_measures(t: u32, s: u32) -> (CodeReply, CodeReply) {
+    unsafe { (library::ball_volume(t, s), library::covering_floor(t, s)) }
+}
+
+// ---- the sheet
+
+type Refused = (u32, u32);
+
+#[derive(Clone, Debug, PartialEq)]
+struct Sheet {
+    batch: u32,
+    n: u32,
+    terms: Vec<Vec<(u32, bool)>>,
+}
+
+fn read(bytes: &[u8]) -> Result<Sheet, Refused> {
+    if bytes.len() > 36_876 {
+        return Err((5, 9_219));
+    }
+    if bytes.len() % 4 != 0 {
+        return Err((1, 0));
+    }
+    if bytes.len() < 12 {
+        return Err((2, 0));
+    }
+    let words: Vec<u32> = bytes.chunks(4).map(|c| u32::from_le_bytes([c[0], c[1], c[2], c[3]])).collect();
+    let take = |at: usize, kind: u32, limit: u32| -> Result<u32, Refused> {
+        let word = words[at];
+        if word >> 30 != kind {
+            Err((3, at as u32))
+        } else if word & 0x3fff_ffff > limit {
+            Err((5, at as u32))
+        } else {
+            Ok(word & 0x3fff_ffff)
+        }
+    };
+    let high = take(0, 3, 65_535)?;
+    let low = take(1, 3, 65_535)?;
+    let n = take(2, 2, 32)?;
+    let mut terms = Vec::new();
+    let mut at = 3;
+    while at < words.len() {
+        let length = take(at, 1, u32::MAX)?;
+        if length > 8 || terms.len() == 1024 {
+            return Err((5, at as u32));
+        }
+        at += 1;
+        let mut term: Vec<(u32, bool)> = Vec::new();
+        for _ in 0..length {
+            if at == words.len() {
+                return Err((4, at as u32));
+            }
+            let wish = take(at, 0, u32::MAX)?;
+            let variable = wish / 2;
+            if variable == 0 || variable > n {
+                return Err((6, at as u32));
+            }
+            if term.iter().any(|l| l.0 == variable) {
+                return Err((7, at as u32));
+            }
+            term.push((variable, wish % 2 == 0));
+            at += 1;
+        }
+        terms.push(term);
+    }
+    Ok(Sheet { batch: high * 65_536 + low, n, terms })
+}
+
+fn write(sheet: &Sheet) -> Vec<u8> {
+    let mut words = vec![3 << 30 | sheet.batch >> 16, 3 << 30 | sheet.batch & 0xffff, 2 << 30 | sheet.n];
+    for term in &sheet.terms {
+        words.push(1 << 30 | term.len() as u32);
+        words.extend(term.iter().map(|l| l.0 * 2 + !l.1 as u32));
+    }
+    words.iter().flat_map(|w| w.to_le_bytes()).collect()
+}
+
+// ---- the code, straight from its definition
+
+fn greedy(t: u32, s: u32) -> Vec<u32> {
+    let size = 1usize << t;
+    let mut uncovered = vec![true; size];
+    let mut left = size;
+    let mut code = Vec::new();
+    let ball: Vec<u32> = (0..size as u32).filter(|x| x.count_ones() <= s).collect();
+    while left > 0 {
+        let gain = |w: u32| ball.iter().filter(|x| uncovered[(w ^ *x) as usize]).count();
+        let mut best = (0, 0u32);
+        for w in 0..size as u32 {
+            let g = gain(w);
+            if g > best.0 {
+                best = (g, w);
+            }
+        }
+        for x in &ball {
+            let y = (best.1 ^ x) as usize;
+            left -= uncovered[y] as usize;
+            uncovered[y] = false;
+        }
+        code.push(best.1);
+    }
+    code
+}
+
+struct Codes(HashMap<(u32, u32), Vec<u32>>);
+
+impl Codes {
+    fn get(&mut self, t: u32, s: u32) -> Vec<u32> {
+        self.0.entry((t, s)).or_insert_with(|| greedy(t, s)).clone()
+    }
+}
+
+// ---- the search
+
+struct Search<'a> {
+    sheet: &'a Sheet,
+    calls: u64,
+    budget: u64,
+}
+
+enum Seen {
+    Found(u32),
+    No,
+    Spent,
+}
+
+impl Search<'_> {
+    fn call(&mut self, marks: u32, flipped: u32, left: u32) -> Seen {
+        if self.calls == self.budget {
+            return Seen::Spent;
+        }
+        self.calls += 1;
+        let met = |l: &(u32, bool)| (marks >> (l.0 - 1) & 1 == 1) == l.1;
+        let Some(term) = self.sheet.terms.iter().find(|t| !t.iter().any(met)) else {
+            return Seen::Found(marks);
+        };
+        if left == 0 {
+            return Seen::No;
+        }
+        for l in term {
+            let bit = 1 << (l.0 - 1);
+            if flipped & bit != 0 {
+                continue;
+            }
+            match self.call(marks ^ bit, flipped | bit, left - 1) {
+                Seen::No => {}
+                other => return other,
+            }
+        }
+        Seen::No
+    }
+}
+
+fn run(codes: &mut Codes, plan: (u32, u32), budget: u32, bytes: &[u8]) -> Reply {
+    let refused = |r: Refused| Reply { number: r.0, place: r.1, ..Reply::default() };
+    let (b, s) = plan;
+    if b < 1 || b > 12 || s > b {
+        return refused((8, 0));
+    }
+    let sheet = match read(bytes) {
+        Ok(sheet) => sheet,
+        Err(r) => return refused(r),
+    };
+    let mut blocks = Vec::new();
+    let mut at = 0;
+    while at < sheet.n {
+        let t = b.min(sheet.n - at);
+        blocks.push((at, s.min(t), codes.get(t, s.min(t))));
+        at += t;
+    }
+    let radius = blocks.iter().map(|b| b.1).sum();
+    let mut digits = vec![0usize; blocks.len()];
+    let mut search = Search { sheet: &sheet, calls: 0, budget: budget as u64 };
+    let reply = |verdict, marks, calls: u64| Reply { verdict, batch: sheet.batch, marks, calls: calls as u32, number: 0, place: 0 };
+    loop {
+        let centre = blocks.iter().zip(&digits).fold(0u32, |c, (b, d)| c | b.2[*d] << b.0);
+        match search.call(centre, 0, radius) {
+            Seen::Found(marks) => return reply(1, marks, search.calls),
+            Seen::Spent => return reply(3, 0, budget as u64),
+            Seen::No => {}
+        }
+        let mut i = 0;
+        while i < digits.len() {
+            digits[i] += 1;
+            if digits[i] < blocks[i].2.len() {
+                break;
+            }
+            digits[i] = 0;
+            i += 1;
+        }
+        if i == digits.len() {
+            return reply(2, 0, search.calls);
+        }
+    }
+}
+
+// ---- alike, and the operations on codes
+
+fn alike(a: &[u8], b: &[u8]) -> AlikeReply {
+    let refused = |sheet, r: Refused| AlikeReply { answer: 0, sheet, number: r.0, place: r.1 };
+    let (a, b) = match (read(a), read(b)) {
+        (Err(r), _) => return refused(1, r),
+        (Ok(_), Err(r)) => return refused(2, r),
+        (Ok(a), Ok(b)) => (a, b),
+    };
+    let sets = |s: &Sheet| -> BTreeSet<BTreeSet<(u32, bool)>> { s.terms.iter().map(|t| t.iter().copied().collect()).collect() };
+    let same = a.n == b.n && sets(&a) == sets(&b);
+    AlikeReply { answer: if same { 1 } else { 2 }, ..AlikeReply::default() }
+}
+
+// A sheet like the first, or nearly.
+fn relative(r: &mut Random, bytes: &[u8]) -> Vec<u8> {
+    let Ok(mut sheet) = read(bytes) else {
+        return random_bytes(r);
+    };
+    for _ in 0..r.below(4) {
+        let count = sheet.terms.len() as u64;
+        if count == 0 {
+            break;
+        }
+        let (i, j) = (r.below(count) as usize, r.below(count) as usize);
+        match r.below(5) {
+            0 => sheet.terms.swap(i, j),
+            1 => sheet.terms[i].reverse(),
+            2 if count < 1024 => sheet.terms.push(sheet.terms[j].clone()),
+            3 => sheet.batch ^= 1,
+            _ if r.below(3) == 0 => drop(sheet.terms.remove(i)),
+            _ => {}
+        }
+    }
+    sheet.n += (r.below(20) == 0 && sheet.n < 32) as u32;
+    write(&sheet)
+}
+
+fn codes_agree(codes: &mut Codes) -> bool {
+    let binomial = |t: u64, i: u64| (0..i).fold(1u64, |c, k| if k < t { c * (t - k) / (k + 1) } else { 0 });
+    let mut fine = true;
+    for t in 0..=14u32 {
+        for s in 0..=14u32 {
+            let bad = CodeReply { refusal: 8, ..CodeReply::default() };
+            let volume = (0..=s as u64).map(|i| binomial(t as u64, i)).sum::<u64>() as u32;
+            let number = |n| CodeReply { number: n, ..CodeReply::default() };
+            let measures = if t > 12 || s > 12 { (bad, bad) } else { (number(volume), number((1u32 << t).div_ceil(volume))) };
+            fine &= library_measures(t, s) == measures;
+            for cells in [1usize << t.min(12), (1 << t.min(12)) - 1, 4096] {
+                let mut table = vec![0xabcd; cells];
+                let mut after = table.clone();
+                let expected = if t < 1 || t > 12 || s > t {
+                    bad
+                } else if cells < 1 << t {
+                    CodeReply { refusal: 9, ..bad }
+                } else {
+                    let words = codes.get(t, s);
+                    words.iter().enumerate().for_each(|(i, w)| after[i] = *w as u16);
+                    number(words.len() as u32)
+                };
+                fine &= library_code(t, s, &mut table) == expected && table == after;
+            }
+        }
+    }
+    fine
+}
+
+// Worked examples of the sources 000 and 002: variables, clauses, and whether a model exists.
+fn sources_agree() -> bool {
+    let examples: [(u32, &[&[i32]], bool); 5] = [
+        (3, &[&[1, 2], &[-1, -3], &[-3]], true),
+        (3, &[&[1, -2], &[1, 2, 3]], true),
+        (3, &[&[1], &[-1, 2], &[-2, 3], &[-3]], false),
+        (4, &[&[1], &[-1, -2], &[3, 2], &[-3, 2, -4, 1]], true),
+        (4, &[&[1, 2, 3], &[-1, 2, -4]], true),
+    ];
+    examples.iter().all(|(n, clauses, model)| {
+        let terms = clauses.iter().map(|c| c.iter().map(|l| (l.unsigned_abs(), *l > 0)).collect()).collect();
+        let bytes = write(&Sheet { batch: 2, n: *n, terms });
+        let verdict = if *model { 1 } else { 2 };
+        (1..=12).all(|b| (0..=b).all(|s| library_run((b, s), u32::MAX, &bytes).verdict == verdict))
+    })
+}
+
+// ---- inputs
+
+struct Random(u64);
+
+impl Random {
+    fn next(&mut self) -> u64 {
+        self.0 ^= self.0 << 13;
+        self.0 ^= self.0 >> 7;
+        self.0 ^= self.0 << 17;
+        self.0
+    }
+    fn below(&mut self, n: u64) -> u64 {
+        (self.next() >> 16) % n
+    }
+    fn range(&mut self, low: u64, high: u64) -> u64 {
+        low + self.below(high - low + 1)
+    }
+}
+
+fn random_sheet(r: &mut Random) -> Sheet {
+    let n = match r.below(4) {
+        0 => r.range(0, 4),
+        1 => r.range(0, 12),
+        _ => r.range(0, 32),
+    } as u32;
+    let count = match r.below(40) {
+        0 => r.range(900, 1024),
+        1..=8 => r.range(0, 3),
+        _ => r.range(0, 6 * n as u64 + 1),
+    };
+    let longest = r.range(1, 8).min(n as u64);
+    let mut terms: Vec<Vec<(u32, bool)>> = Vec::new();
+    for _ in 0..count {
+        if !terms.is_empty() && r.below(12) == 0 {
+            let again = terms[r.below(terms.len() as u64) as usize].clone();
+            terms.push(again);
+            continue;
+        }
+        let length = if r.below(60) == 0 { 0 } else { r.range(longest.min(2), longest) };
+        let mut term: Vec<(u32, bool)> = Vec::new();
+        while (term.len() as u64) < length {
+            let v = r.range(1, n as u64) as u32;
+            if term.iter().all(|l| l.0 != v) {
+                term.push((v, r.below(2) == 0));
+            }
+        }
+        terms.push(term);
+    }
+    Sheet { batch: r.next() as u32, n, terms }
+}
+
+fn damage(r: &mut Random, bytes: &mut Vec<u8>) {
+    for _ in 0..r.range(1, 3) {
+        let words = (bytes.len() / 4) as u64;
+        match r.below(8) {
+            0 => bytes.truncate(r.below(bytes.len() as u64 + 1) as usize),
+            1 => bytes.truncate(r.below(words + 1) as usize * 4),
+            2 => bytes.extend((0..r.range(1, 9)).map(|_| r.0 as u8)),
+            3 => (0..r.range(1, 4)).for_each(|_| bytes.extend((1u32 << 30).to_le_bytes())),
+            _ if words > 0 => {
+                let at = r.below(words) as usize * 4;
+                let word = match r.below(5) {
+                    0 => (r.below(4) as u32) << 30 | r.below(40) as u32,
+                    1 => r.below(70) as u32,
+                    2 => 1 << 30 | r.below(12) as u32,
+                    3 => u32::from_le_bytes([bytes[at], bytes[at + 1], bytes[at + 2], bytes[at + 3]]) ^ 1 << r.below(32),
+                    _ => r.next() as u32,
+                };
+                bytes[at..at + 4].copy_from_slice(&word.to_le_bytes());
+            }
+            _ => bytes.push(r.0 as u8),
+        }
+    }
+}
+
+fn random_bytes(r: &mut Random) -> Vec<u8> {
+    match r.below(40) {
+        0..=3 => (0..r.below(64)).map(|_| r.next() as u8).collect(),
+        4 => vec![0; r.range(36_860, 36_900) as usize],
+        5 => {
+            let mut full = Sheet { batch: 7, n: 32, terms: Vec::new() };
+            for i in 0..r.range(1022, 1026) {
+                full.terms.push((0..8).map(|j| ((i as u32 + j) % 32 + 1, i % 3 == 0)).collect());
+            }
+            write(&full)
+        }
+        6..=18 => {
+            let mut bytes = write(&random_sheet(r));
+            damage(r, &mut bytes);
+            bytes
+        }
+        _ => write(&random_sheet(r)),
+    }
+}
+
+fn random_plan(r: &mut Random) -> (u32, u32) {
+    let b = match r.below(400) {
+        0 => r.range(11, 12),
+        1..=9 => r.range(9, 10),
+        10..=19 => 0,
+        20..=25 => r.range(13, 40),
+        _ => r.range(1, 8),
+    } as u32;
+    let s = if r.below(40) == 0 { b + r.below(3) as u32 } else { r.below(b as u64 + 1) as u32 };
+    (b, s)
+}
+
+fn main() {
+    let inputs: u64 = std::env::args().nth(1).map_or(200_000, |a| a.parse().expect("a number of inputs"));
+    let mut r = Random(0x9e37_79b9_7f4a_7c15);
+    let mut codes = Codes(HashMap::new());
+    let mut kinds = [0u64; 4];
+    let mut numbers = [0u64; 10];
+    let mut failed = 0u64;
+    let mut pairs = [0u64; 3];
+    if !sources_agree() {
+        failed += 1;
+        println!("an example of the sources differs");
+    }
+    if !codes_agree(&mut codes) {
+        failed += 1;
+        println!("codes, volumes or floors differ");
+    }
+    for _ in 0..inputs {
+        let bytes = random_bytes(&mut r);
+        if r.below(4) == 0 {
+            let other = relative(&mut r, &bytes);
+            let expected = alike(&bytes, &other);
+            pairs[expected.answer as usize] += 1;
+            if library_alike(&bytes, &other) != expected {
+                failed += 1;
+                println!("alike {:?} {:?}: expected {:?}", bytes, other, expected);
+            }
+        }
+        let plan = random_plan(&mut r);
+        let high = [0, 1, 2, 30, 400, 3000][r.below(6) as usize];
+        let mut budget = r.below(high + 1) as u32;
+        let mut expected = run(&mut codes, plan, budget, &bytes);
+        if expected.verdict != 0 && expected.verdict != 3 && r.below(2) == 0 {
+            // the last call needed is not one too many, and one call fewer is not enough
+            budget = expected.calls - r.below(2) as u32;
+            expected = run(&mut codes, plan, budget, &bytes);
+        }
+        let got = library_run(plan, budget, &bytes);
+        kinds[expected.verdict as usize] += 1;
+        numbers[expected.number as usize] += 1;
+        if got != expected {
+            failed += 1;
+            println!("plan {:?} budget {} sheet {:?}: expected {:?}, got {:?}", plan, budget, bytes, expected, got);
+        }
+    }
+    println!("{} inputs: refused {} clear {} none {} spent {}", inputs, kinds[0], kinds[1], kinds[2], kinds[3]);
+    println!("refusals 1 to 8: {:?}", &numbers[1..9]);
+    println!("pairs: refused {} alike {} different {}", pairs[0], pairs[1], pairs[2]);
+    println!("differential: {} passed, {} failed", inputs - failed, failed);
+    std::process::exit((failed != 0) as i32);
+}
