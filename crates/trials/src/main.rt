@@ -1,0 +1,270 @@
+// Trials of the engine on generated sheets: n 0 to 12, clauses of 0 to 8 literals, every plan, and
+// budgets below, at and above the calls needed. Each answer is compared with a trial of all
+// assignments that shares nothing with the search. It prints every run that disagrees, and counts.
+// The counts record how many sheets of each kind the fixed generator makes; that no run disagrees
+// is what is tested.
+mod brute;
+mod sheets;
+
+use brute::has_model;
+use brute::meets;
+use engine::Reply;
+use libc::STDOUT_FILENO;
+use sheets::Random;
+use sheets::Shape;
+use sheets::draw_shape;
+use sheets::draw_sheet;
+ghost use Prim.Native.Nat.{_*_, _≤_};
+ghost use lib.ListN.{length};
+ghost use Rattle.trials.specs.Bounds.{Bounded, Roomy};
+
+const SHEETS: u32 = 30000;
+// Enough for most sheets; the others are spent.
+const BUDGET: u32 = 10000;
+
+const LARGEST_BUDGET: u32 = 4294967295;
+
+// A sheet by its number, the plan that it is tried with, and what its answer is compared with.
+struct Case {
+    number: u32,
+    size: u32,
+    radius: u32,
+    batch: u32,
+    n: u32,
+    clauses: usize,
+    model: bool,
+}
+
+// How many sheets agreed, by verdict; how many runs with another budget agreed; and how many runs
+// did not.
+struct Counts {
+    clear: u64,
+    none: u64,
+    spent: u64,
+    budgets: u64,
+    disagreements: u64,
+}
+
+struct Trial {
+    random: Random,
+    counts: Counts,
+}
+
+fn more(count: u64) -> u64 {
+    std::num::wrapping_add_u64(count, 1)
+}
+
+impl Counts {
+    fn zero() -> Counts {
+        Counts {
+            clear: 0,
+            none: 0,
+            spent: 0,
+            budgets: 0,
+            disagreements: 0,
+        }
+    }
+
+    fn with_verdict(mut self, verdict: u32) -> Counts {
+        if verdict == engine::CLEAR {
+            self.clear = more(self.clear);
+        } else if verdict == engine::NONE {
+            self.none = more(self.none);
+        } else {
+            self.spent = more(self.spent);
+        }
+        self
+    }
+
+    fn with_budget(mut self) -> Counts {
+        self.budgets = more(self.budgets);
+        self
+    }
+
+    fn with_disagreement(mut self) -> Counts {
+        self.disagreements = more(self.disagreements);
+        self
+    }
+}
+
+fn print_number(name: &[u8], n: u64) {
+    io::write_all(STDOUT_FILENO, name);
+    io::print_decimal(STDOUT_FILENO, n);
+}
+
+fn print_counts(counts: Counts) {
+    print_number(b"clear ", counts.clear);
+    print_number(b"\nnone ", counts.none);
+    print_number(b"\nspent ", counts.spent);
+    print_number(b"\nbudgets ", counts.budgets);
+    print_number(b"\ndisagreements ", counts.disagreements);
+    io::write_all(STDOUT_FILENO, b"\n");
+}
+
+fn print_pair(name: &[u8], a: u32, other: &[u8], b: u32) {
+    print_number(name, a as u64);
+    print_number(other, b as u64);
+}
+
+fn print_reply(reply: Reply) {
+    print_pair(b" verdict ", reply.verdict, b" batch ", reply.batch);
+    print_pair(b" marks ", reply.marks, b" calls ", reply.calls);
+    print_pair(b" number ", reply.number, b" place ", reply.place);
+    io::write_all(STDOUT_FILENO, b"\n");
+}
+
+// A run that disagrees.
+fn report(case: Case, budget: u32, reply: Reply, counts: Counts) -> Counts {
+    print_pair(b"sheet ", case.number, b" budget ", budget);
+    print_pair(b" plan ", case.size, b" ", case.radius);
+    print_reply(reply);
+    counts.with_disagreement()
+}
+
+fn same(a: Reply, b: Reply) -> bool {
+    a.verdict == b.verdict
+        && a.batch == b.batch
+        && a.marks == b.marks
+        && a.calls == b.calls
+        && a.number == b.number
+        && a.place == b.place
+}
+
+fn counted(verdict: u32, batch: u32, marks: u32, calls: u32) -> Reply {
+    Reply {
+        verdict,
+        batch,
+        marks,
+        calls,
+        number: 0,
+        place: 0,
+    }
+}
+
+// The right answer to a first run that has these marks and calls.
+fn expected(case: Case, reply: Reply) -> Reply {
+    if reply.verdict == engine::SPENT {
+        counted(engine::SPENT, case.batch, 0, BUDGET)
+    } else if case.model {
+        counted(engine::CLEAR, case.batch, reply.marks, reply.calls)
+    } else {
+        counted(engine::NONE, case.batch, 0, reply.calls)
+    }
+}
+
+// Whether a first run agrees with the brute trial.
+fn agrees(case: Case, reply: Reply, table: &[u32]) -> bool
+    requires { ⌜ (case .n ≤ 12) × (2 * case .clauses ≤ length (now table)) ⌝ }
+{
+    if !same(reply, expected(case, reply)) {
+        return false;
+    }
+    if reply.calls == 0 || BUDGET < reply.calls {
+        return false;
+    }
+    if reply.verdict != engine::CLEAR {
+        return true;
+    }
+    reply.marks >> case.n == 0 && meets(reply.marks, table, case.clauses)
+}
+
+// The sheet once more, with a budget whose answer is known.
+fn run_again(sheet: &[u8], case: Case, budget: u32, answer: Reply, counts: Counts) -> Counts {
+    let reply = engine::run(case.size, case.radius, budget, sheet);
+    if same(reply, answer) {
+        return counts.with_budget();
+    }
+    report(case, budget, reply, counts)
+}
+
+// Budgets one below the calls needed, at them, and above.
+fn run_around(sheet: &[u8], case: Case, reply: Reply, counts: Counts) -> Counts {
+    let calls = reply.calls;
+    let less = std::num::wrapping_sub_u32(calls, 1);
+    let spent = counted(engine::SPENT, case.batch, 0, less);
+    let below = run_again(sheet, case, less, spent, counts);
+    let at = run_again(sheet, case, calls, reply, below);
+    run_again(sheet, case, LARGEST_BUDGET, reply, at)
+}
+
+// All runs of a sheet.
+fn run_case(sheet: &[u8], table: &[u32], case: Case, counts: Counts) -> Counts
+    requires { ⌜ (case .n ≤ 12) × (2 * case .clauses ≤ length (now table)) ⌝ }
+{
+    let reply = engine::run(case.size, case.radius, BUDGET, sheet);
+    if !agrees(case, reply, table) {
+        return report(case, BUDGET, reply, counts);
+    }
+    let seen = counts.with_verdict(reply.verdict);
+    if reply.verdict == engine::SPENT {
+        return seen;
+    }
+    run_around(sheet, case, reply, seen)
+}
+
+// A sheet that ends at a byte, with the plan whose turn it is.
+fn try_drawn(
+    sheet: &[u8],
+    end: usize,
+    table: &[u32],
+    shape: Shape,
+    number: u32,
+    counts: Counts,
+) -> Counts
+    requires { ⌜ Bounded shape ⌝ }
+    requires { ⌜ Roomy (now sheet) (now table) ⌝ }
+    requires { ⌜ end ≤ 36876 ⌝ }
+{
+    let n = shape.n;
+    let clauses = shape.clauses as usize;
+    let size = 1 + number % 12;
+    let case = Case {
+        number,
+        size,
+        radius: number / 12 % (size + 1),
+        batch: shape.batch,
+        n,
+        clauses,
+        model: has_model(n, table, clauses),
+    };
+    run_case(&sheet[0..end], table, case, counts)
+}
+
+// The next sheet.
+fn try_sheet(sheet: &mut [u8], table: &mut [u32], number: u32, trial: Trial) -> Trial
+    requires { ⌜ Roomy (now sheet) (now table) ⌝ }
+{
+    let random = trial.random;
+    let counts = trial.counts;
+    let shape = draw_shape(random);
+    let draft = draw_sheet(sheet, table, shape);
+    let next = draft.random;
+    Trial {
+        random: next,
+        counts: try_drawn(sheet, draft.at, table, shape, number, counts),
+    }
+}
+
+// All sheets, one after the other in the same arrays.
+fn try_sheets(sheet: &mut [u8], table: &mut [u32]) -> Counts
+    requires { ⌜ Roomy (now sheet) (now table) ⌝ }
+{
+    let mut trial = Trial {
+        random: Random {
+            state: 88172645463325252,
+        },
+        counts: Counts::zero(),
+    };
+    let mut number = 0;
+    while number < SHEETS {
+        trial = try_sheet(sheet, table, number, trial);
+        number += 1;
+    }
+    trial.counts
+}
+
+fn main() {
+    let mut sheet = [0u8; 36876];
+    let mut table = [0u32; 2048];
+    print_counts(try_sheets(&mut sheet, &mut table));
+}
