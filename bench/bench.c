@@ -43,6 +43,26 @@ static void make(uint32_t n, uint32_t count, uint32_t c)
     }
 }
 
+/* all 256 clauses over the variables 1 to 8, which have no model, among random clauses of 8 literals */
+static void make_eights(void)
+{
+    length = 0;
+    put(3u << 30), put(3u << 30 | 1), put(2u << 30 | 32);
+    for (uint32_t i = 0; i < 1024; i++) {
+        uint32_t used = 0, v;
+        put(1u << 30 | 8);
+        for (uint32_t j = 0; j < 8; j++) {
+            if (i % 4 == 0) {
+                put(2 * (j + 1) + (i / 4 >> j & 1));
+                continue;
+            }
+            do v = below(32); while (used >> v & 1);
+            used |= 1u << v;
+            put(2 * (v + 1) + below(2));
+        }
+    }
+}
+
 static const char *verdicts[] = { "refused", "clear", "none", "spent" };
 
 static int search(const char *what, uint32_t b, uint32_t s, uint32_t budget)
@@ -118,8 +138,8 @@ int main(void)
     ok &= search("n 32, 1,024 clauses of 3, plan 11, 3", 11, 3, 20000000);
     make(32, 160, 3);
     ok &= search("n 32, 160 clauses of 3, plan 8, 0", 8, 0, 20000000);
-    make(32, 900, 8);
-    ok &= search("n 32, 900 clauses of 8, plan 8, 3", 8, 3, 5000000);
+    make_eights();
+    ok &= search("n 32, 1,024 clauses of 8, plan 8, 2", 8, 2, 5000000);
     make(32, 1024, 8);
     ok &= reading();
     return !ok;

@@ -4,14 +4,13 @@ use mathlib.Core.Path.{_≡_, refl, sym, ap, _∙_}
 use mathlib.Core.Logic.{⊎-elim}
 use mathlib.Core.Bool.{Bool, true, false, cond}
 use mathlib.Core.List.{List, [], _∷_, _++_, List·Memᴰ·head, List·Memᴰ·tail, List·Memᴰ·not-nil, List·Memᴰ·cases-cons, List·Memᴰ·append-cases, List·Memᴰ·eq-of-singleton}
-use Prim.Native.Nat.{ℕ, zero, suc, _+_, _-_, _*_, _/_, _%_, _^_, _≤_, _<_}
-use native.Mathlib.Nat.{le-refl, zero-div, zero-mod, mod-lt, mod-eq-of-lt, div-eq-of-lt, mul-add-div-right, mul-add-mod-self-right, mul-le-mul-right, mul-comm, div-add-mod', add-comm, add-zero, min-le-right, div-eq-sub-div, mod-eq-sub-mod}
-use native.Mathlib.Numerals.{add-one}
+use Prim.Native.Nat.{ℕ, zero, suc, _+_, _*_, _/_, _%_, _^_, _≤_, _<_}
+use native.Mathlib.Nat.{le-refl, mod-lt, mod-eq-of-lt, div-eq-of-lt, mul-add-div-right, mul-add-mod-self-right, mul-le-mul-right, mul-comm, div-add-mod', add-comm, add-zero, min-le-right}
 use native.Mathlib.Omega.{arith}
 use lib.Dec.{eqb}
 use lib.ListN.{length, getD, replicate}
 use lib.Pow.{pow-pos, pow-add, shr-lt, split}
-use borrow.Author.Tests.{eqb-true, ne-eqb}
+use borrow.Author.Tests.{eqb-true}
 use Rattle.words.specs.Lists.{In}
 use Rattle.words.specs.Bits.{distance}
 use Rattle.words.specs.BitLaws.{distance-self, distance-blocks}
@@ -149,18 +148,3 @@ radius-size (b ∷ bs) each =
 pub radius-le : (code : Code) (p : Plan) (n : ℕ) → p .radius ≤ p .size → summedRadius (blocks code p n) ≤ n
 radius-le code p n h =
     rw (blocks-size code p n) at (radius-size (blocks code p n) (blocks-each (λ b. b .radius ≤ b .size) code p n (unfold blockOf in h) (λ t. unfold blockOf shortBlock in min-le-right (p .radius) t)))
-
--- ---- the blocks one by one, as a loop goes through them
-
-module _ (code : Code) (p : Plan) where
-  pub blocks-none : blocks code p 0 ≡ []
-  unfolding blocks
-  blocks-none = rw (zero-div, zero-mod)
-
-  pub blocks-last : (n : ℕ) → 0 < n → n < p .size → blocks code p n ≡ shortBlock code n (p .radius) ∷ []
-  unfolding blocks
-  blocks-last n h l = rw (div-eq-of-lt l, mod-eq-of-lt l, ne-eqb n 0 (λ e. absurd (omega arith)))
-
-  pub blocks-step : (n : ℕ) → 0 < p .size → p .size ≤ n → blocks code p n ≡ blockOf code (p .size) (p .radius) ∷ blocks code p (n - p .size)
-  unfolding blocks
-  blocks-step n h l = rw (div-eq-sub-div h l, add-one, mod-eq-sub-mod l)

@@ -114,11 +114,6 @@ module _ (code : Code) (covering : Covering code) (p : Plan) (f : Formula) (know
   unfolding callsNeeded searchOf bound
   demand-bound = run-bounded (f .n) (searchOf code p f) (formula-fit code covering p f known)
 
-  -- Demand 3, the budget.
-  pub demand-stays : (A B : ℕ) → A ≤ B → (IsSpent (answerOf code p f A) → ⊥) → answerOf code p f B ≡ answerOf code p f A
-  unfolding answerOf
-  demand-stays = answer-stays (run (searchOf code p f))
-
 -- Demand 3, further clauses: whatever code, plan and budget of each.
 pub demand-further : (code : Code) → Covering code → (p : Plan) (f : Formula) → Known (f .n) (f .clauses) → (A : ℕ) → IsNone (answerOf code p f A) →
     (code′ : Code) → Covering code′ → (p′ : Plan) (g : Formula) → Known (g .n) (g .clauses) → (B : ℕ) → f .n ≡ g .n → stands (f .clauses) (g .clauses) ≡ true →

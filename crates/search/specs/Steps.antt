@@ -2,40 +2,16 @@
 use mathlib.Core.Path.{_≡_, refl, sym}
 use mathlib.Core.Bool.{Bool, true, false, not, and-false}
 use mathlib.Core.List.{List, [], _∷_}
-use Prim.Native.Nat.{ℕ, zero, suc, _+_, _-_, _≤_, _<_}
-use native.Mathlib.Nat.{sub-zero, sub-eq-zero-of-le, not-suc-le-zero, le-of-suc-le-suc}
+use Prim.Native.Nat.{ℕ, suc, _+_, _-_, _≤_, _<_}
+use native.Mathlib.Nat.{sub-zero, sub-eq-zero-of-le}
 use native.Mathlib.Numerals.{add-one}
 use native.Mathlib.Omega.{arith}
-use lib.ListN.{length, getD}
-use Rattle.words.specs.Lists.{span, every, keep, first, and-both}
+use Rattle.words.specs.Lists.{span, every, keep}
 use Rattle.formula.specs.Formula.{Literal, Clause}
 use Rattle.search.specs.Explore.{Outcome, calls, after, try, State, reading, isFlipped, flip, Rule, isTried, tried, branch, skipNone, firstFalse, firstFalseRule, ballTree, ballSearch, tryLiterals}
 use Rattle.search.specs.Run.{Search, centreCount, ball, run, rest, Answer, clear, spent, answer, settle}
 use Rattle.search.specs.Trees.{explore-some}
 use Rattle.search.specs.Settle.{onward, settle-start, settle-none, settle-after, settle-nil, settle-cons, call-spent, call-clear, call-none, call-moves}
-
--- ---- the clauses at a state, by their places
-
--- Every clause is true,
-pub all-true : (s : State) (cs : List Clause) → ((i : ℕ) → i < length cs → reading s (getD cs i []) ≡ true) → every (reading s) cs ≡ true
-unfolding every
-all-true s [] h = refl
-all-true s (c ∷ cs) h = and-both (reading s c) (every (reading s) cs) (h 0 (omega arith)) (all-true s cs (λ i l. h (suc i) (omega arith)))
-
--- or clause j is false: then not all are true,
-pub not-all-true : (s : State) (cs : List Clause) (j : ℕ) → j < length cs → reading s (getD cs j []) ≡ false → every (reading s) cs ≡ false
-unfolding every
-not-all-true s [] j l e = absurd (not-suc-le-zero l)
-not-all-true s (c ∷ cs) zero l e = rw e
-not-all-true s (c ∷ cs) (suc j) l e = rw (not-all-true s cs j (le-of-suc-le-suc l) e, and-false (reading s c))
-
--- and it is the first false one where all before it are true.
-pub firstFalse-at : (s : State) (cs : List Clause) (j : ℕ) → j < length cs → ((i : ℕ) → i < j → reading s (getD cs i []) ≡ true) →
-    reading s (getD cs j []) ≡ false → firstFalse cs s ≡ getD cs j []
-unfolding firstFalse first
-firstFalse-at s [] j l h e = absurd (not-suc-le-zero l)
-firstFalse-at s (c ∷ cs) zero l h e = rw e
-firstFalse-at s (c ∷ cs) (suc j) l h e = rw (h 0 (omega arith)) (firstFalse-at s cs j (le-of-suc-le-suc l) (λ i l′. h (suc i) (omega arith)) e)
 
 -- ---- a call
 
@@ -80,11 +56,7 @@ module _ (skip : State → Literal → Bool) (s : State) where
   unfolding tried keep
   tried-end = refl
 
-  -- a literal is passed over where it is skipped or its variable flipped, and tried otherwise
-  pub tried-skipped : (l : Literal) (ls : List Literal) → skip s l ≡ true → tried skip s (l ∷ ls) ≡ tried skip s ls
-  unfolding tried isTried keep
-  tried-skipped l ls e = rw e
-
+  -- a literal is passed over where its variable is flipped, and tried where it is not skipped either
   pub tried-flipped : (l : Literal) (ls : List Literal) → isFlipped s l ≡ true → tried skip s (l ∷ ls) ≡ tried skip s ls
   unfolding tried isTried keep
   tried-flipped l ls e = rw (e, and-false (not (skip s l)))
