@@ -50,6 +50,7 @@ struct Trial {
     counts: Counts,
 }
 
+// Wrapping, so that no bound is carried along: no count comes near the end of its type.
 fn more(count: u64) -> u64 {
     std::num::wrapping_add_u64(count, 1)
 }
@@ -177,7 +178,7 @@ fn run_again(sheet: &[u8], case: Case, budget: u32, answer: Reply, counts: Count
     report(case, budget, reply, counts)
 }
 
-// Budgets one below the calls needed, at them, and above.
+// Budgets one below the calls needed, at them, and above. The calls are at least 1, as `agrees` saw.
 fn run_around(sheet: &[u8], case: Case, reply: Reply, counts: Counts) -> Counts {
     let calls = reply.calls;
     let less = std::num::wrapping_sub_u32(calls, 1);
@@ -245,8 +246,8 @@ fn try_sheet(sheet: &mut [u8], table: &mut [u32], number: u32, trial: Trial) -> 
     }
 }
 
-// All sheets, one after the other in the same arrays.
-fn try_sheets(sheet: &mut [u8], table: &mut [u32]) -> Counts
+// So many sheets, one after the other in the same arrays.
+fn try_sheets(sheet: &mut [u8], table: &mut [u32], sheets: u32) -> Counts
     requires { ⌜ Roomy (now sheet) (now table) ⌝ }
 {
     let mut trial = Trial {
@@ -256,7 +257,7 @@ fn try_sheets(sheet: &mut [u8], table: &mut [u32]) -> Counts
         counts: Counts::zero(),
     };
     let mut number = 0;
-    while number < SHEETS {
+    while number < sheets {
         trial = try_sheet(sheet, table, number, trial);
         number += 1;
     }
@@ -266,5 +267,5 @@ fn try_sheets(sheet: &mut [u8], table: &mut [u32]) -> Counts
 fn main() {
     let mut sheet = [0u8; 36876];
     let mut table = [0u32; 2048];
-    print_counts(try_sheets(&mut sheet, &mut table));
+    print_counts(try_sheets(&mut sheet, &mut table, SHEETS));
 }

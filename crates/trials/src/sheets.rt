@@ -28,6 +28,7 @@ impl Random {
         (self.state >> 32) as u32
     }
 
+    // A number below n.
     fn below(self, n: u32) -> u32
         requires { ⌜ 0 < n ⌝ }
         ensures { λ r. ⌜ r < n ⌝ }
@@ -176,10 +177,10 @@ fn draw_clause(sheet: &mut [u8], at: usize, n: u32, most: u32, random: Random) -
         negative: 0,
         length: 0,
     };
-    let mut draws = 0;
-    while draws < DRAWS {
+    let mut draws = DRAWS;
+    while 0 < draws {
         clause = with_literal(sheet, at, n, most, clause);
-        draws += 1;
+        draws -= 1;
     }
     put_word(sheet, at, 1073741824 + clause.length);
     clause

@@ -6,10 +6,10 @@ use Rattle.trials.proofs.try_sheets.Statement.{statement}
 use Rattle.trials.proofs.try_sheets.Tie as tie
 
 abbrev Inv-loop : tie.InvT-loop
-Inv-loop sheet₀ table₀ trial₀ number₀ sheet table trial number = (number ≤ 30000) × Roomy sheet table
+Inv-loop sheet₀ table₀ sheets trial₀ number₀ sheet table trial number = (number ≤ sheets) × Roomy sheet table
 
 abbrev μ-loop : tie.MeasureT-loop
-μ-loop sheet₀ table₀ trial₀ number₀ sheet table trial number = 30000 - number
+μ-loop sheet₀ table₀ sheets trial₀ number₀ sheet table trial number = sheets - number
 
 zero-requires : tie.Need-zero-requires Inv-loop μ-loop
 zero-requires c κs = search needs

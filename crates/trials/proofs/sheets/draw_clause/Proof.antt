@@ -1,5 +1,5 @@
 -- `draw_clause` is safe: the clause stays within its length, and the sheet keeps its own.
-use Prim.Native.Nat.{_≤_, _-_}
+use Prim.Native.Nat.{_≤_}
 use mathlib.Core.Path.{_≡_}
 use lib.ListN.{length}
 use borrow.Author.Needs.{needs}
@@ -7,10 +7,10 @@ use Rattle.trials.proofs.sheets.draw_clause.Statement.{statement}
 use Rattle.trials.proofs.sheets.draw_clause.Tie as tie
 
 abbrev Inv-loop : tie.InvT-loop
-Inv-loop sheet₀ at n most clause₀ draws₀ sheet clause draws = (draws ≤ 32) × (clause .length ≤ most) × (length sheet ≡ length sheet₀)
+Inv-loop sheet₀ at n most clause₀ draws₀ sheet clause draws = (clause .length ≤ most) × (length sheet ≡ length sheet₀)
 
 abbrev μ-loop : tie.MeasureT-loop
-μ-loop sheet₀ at n most clause₀ draws₀ sheet clause draws = 32 - draws
+μ-loop sheet₀ at n most clause₀ draws₀ sheet clause draws = draws
 
 loop-holds : tie.Need-loop-holds Inv-loop μ-loop
 loop-holds c = search needs
@@ -18,8 +18,8 @@ loop-holds c = search needs
 with-literal-requires : tie.Need-with-literal-requires Inv-loop μ-loop
 with-literal-requires c κs = search needs
 
-add-draws : tie.Need-add-draws Inv-loop μ-loop
-add-draws c = search needs
+sub-draws : tie.Need-sub-draws Inv-loop μ-loop
+sub-draws c = search needs
 
 loop-less : tie.Need-loop-less Inv-loop μ-loop
 loop-less c = search needs
@@ -47,7 +47,7 @@ draw-clause-spec =
     μ-loop
     loop-holds
     with-literal-requires
-    add-draws
+    sub-draws
     loop-less
     loop-again
     add-put-word
