@@ -108,7 +108,7 @@ static int codes(void)
     int ok = 1;
     for (uint32_t s = 0; s <= 12; s++) {
         double best[2] = { 1e9, 1e9 };
-        struct code_reply r = { 0 };
+        struct number_reply r = { 0 };
         int words = 0;
         for (int i = 0; i < 3; i++) {
             double at = seconds();
@@ -119,8 +119,8 @@ static int codes(void)
             if (mid - at < best[0]) best[0] = mid - at;
             if (end - mid < best[1]) best[1] = end - mid;
         }
-        int same = r.refusal == 0 && r.number == (uint32_t)words && memcmp(ours, theirs, 2 * words) == 0;
-        printf("code (12, %2u): %4u words %32s %8.2f ms  plain %8.2f ms  ratio %.2f%s\n", s, r.number, "", best[0] * 1e3, best[1] * 1e3,
+        int same = r.number == 0 && r.result == (uint32_t)words && memcmp(ours, theirs, 2 * words) == 0;
+        printf("code (12, %2u): %4u words %32s %8.2f ms  plain %8.2f ms  ratio %.2f%s\n", s, r.result, "", best[0] * 1e3, best[1] * 1e3,
                best[0] / best[1], same ? "" : "  DIFFERENT ANSWERS");
         ok &= same;
     }

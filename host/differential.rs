@@ -25,20 +25,20 @@ struct AlikeReply {
 
 #[repr(C)]
 #[derive(Clone, Copy, Debug, Default, PartialEq)]
-struct CodeReply {
-    refusal: u32,
-    place: u32,
+struct NumberReply {
+    result: u32,
     number: u32,
+    place: u32,
 }
 
 mod library {
-    use super::{AlikeReply, CodeReply, Reply};
+    use super::{AlikeReply, NumberReply, Reply};
     extern "C" {
         pub fn run(b: u32, s: u32, budget: u32, sheet: *const u8, length: usize) -> Reply;
         pub fn alike(a: *const u8, a_length: usize, b: *const u8, b_length: usize) -> AlikeReply;
-        pub fn covering_code(t: u32, s: u32, table: *mut u16, cells: usize) -> CodeReply;
-        pub fn ball_volume(t: u32, s: u32) -> CodeReply;
-        pub fn covering_floor(t: u32, s: u32) -> CodeReply;
+        pub fn covering_code(t: u32, s: u32, table: *mut u16, cells: usize) -> NumberReply;
+        pub fn ball_volume(t: u32, s: u32) -> NumberReply;
+        pub fn covering_floor(t: u32, s: u32) -> NumberReply;
     }
 }
 
@@ -50,11 +50,11 @@ fn library_alike(a: &[u8], b: &[u8]) -> AlikeReply {
     unsafe { library::alike(a.as_ptr(), a.len(), b.as_ptr(), b.len()) }
 }
 
-fn library_code(t: u32, s: u32, table: &mut [u16]) -> CodeReply {
+fn library_code(t: u32, s: u32, table: &mut [u16]) -> NumberReply {
     unsafe { library::covering_code(t, s, table.as_mut_ptr(), table.len()) }
 }
 
-fn library_measures(t: u32, s: u32) -> (CodeReply, CodeReply) {
+fn library_measures(t: u32, s: u32) -> (NumberReply, NumberReply) {
     unsafe { (library::ball_volume(t, s), library::covering_floor(t, s)) }
 }
 
@@ -293,10 +293,11 @@ fn codes_agree(codes: &mut Codes) -> bool {
     let mut fine = true;
     for t in 0..=14u32 {
         for s in 0..=14u32 {
-            let bad = CodeReply { refusal: 8, ..CodeReply::default() };
+            let refused = |number| NumberReply { number, ..NumberReply::default() };
+            let bad = refused(8);
             let volume = (0..=s as u64).map(|i| binomial(t as u64, i)).sum::<u64>() as u32;
-            let number = |n| CodeReply { number: n, ..CodeReply::default() };
-            let measures = if t > 12 || s > 12 { (bad, bad) } else { (number(volume), number((1u32 << t).div_ceil(volume))) };
+            let answer = |result| NumberReply { result, ..NumberReply::default() };
+            let measures = if t > 12 || s > 12 { (bad, bad) } else { (answer(volume), answer((1u32 << t).div_ceil(volume))) };
             fine &= library_measures(t, s) == measures;
             for cells in [1usize << t.min(12), (1 << t.min(12)) - 1, 4096] {
                 let mut table = vec![0xabcd; cells];
@@ -304,17 +305,28 @@ fn codes_agree(codes: &mut Codes) -> bool {
                 let expected = if t < 1 || t > 12 || s > t {
                     bad
                 } else if cells < 1 << t {
-                    CodeReply { refusal: 9, ..bad }
+                    refused(9)
                 } else {
                     let words = codes.get(t, s);
                     words.iter().enumerate().for_each(|(i, w)| after[i] = *w as u16);
-                    number(words.len() as u32)
+                    answer(words.len() as u32)
                 };
                 fine &= library_code(t, s, &mut table) == expected && table == after;
             }
         }
     }
     fine
+}
+
+// A null pointer with length 0 is an empty buffer.
+fn nothing_agrees() -> bool {
+    let none = std::ptr::null();
+    let run = unsafe { library::run(3, 1, 9, none, 0) };
+    let alike = unsafe { library::alike(none, 0, none, 0) };
+    let code = unsafe { library::covering_code(1, 0, std::ptr::null_mut(), 0) };
+    run == Reply { number: 2, ..Reply::default() }
+        && alike == AlikeReply { sheet: 1, number: 2, ..AlikeReply::default() }
+        && code == NumberReply { number: 9, ..NumberReply::default() }
 }
 
 // Worked examples of the sources 000 and 002: variables, clauses, and whether a model exists.
@@ -452,6 +464,10 @@ fn main() {
     if !sources_agree() {
         failed += 1;
         println!("an example of the sources differs");
+    }
+    if !nothing_agrees() {
+        failed += 1;
+        println!("an answer to an empty buffer differs");
     }
     if !codes_agree(&mut codes) {
         failed += 1;

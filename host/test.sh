@@ -1,22 +1,49 @@
 #!/bin/sh
-# Builds the static library, runs the C host on the sample, and compares the library with an independent implementation.
-# test.sh [INPUTS]
+# Builds the static library, runs the C host on the sample and on bad arguments, and compares the library with an independent
+# implementation. test.sh [INPUTS]
 set -eu
 cd "$(dirname "$0")/.."
 mkdir -p target/host
-for library in engine alike code; do
-    rt staticlib $library >target/host/staticlib.log 2>&1 || {
-        cat target/host/staticlib.log
-        exit 1
-    }
-done
-gcc -O2 -Wall -Wextra -Werror host/clear.c target/staticlib/libengine.a -o target/host/clear
-tail -c +13 crates/clearing/stdin >target/host/sheet
-said=$(target/host/clear 3 1 9 target/host/sheet)
-[ "$said" = "$(cat crates/clearing/stdout)" ] || {
-    echo "host: printed '$said'"
+rt staticlib engine >target/host/staticlib.log 2>&1 || {
+    cat target/host/staticlib.log
     exit 1
 }
-echo "host: printed the sample's line"
-rustc --edition 2021 -O host/differential.rs -L target/staticlib -l static=engine -l static=alike -l static=code -o target/host/differential
+gcc -O2 -Wall -Wextra -Werror host/clear.c target/staticlib/libengine.a -o target/host/clear
+tail -c +13 crates/clearing/stdin >target/host/sheet
+
+# The host prints this line for these arguments.
+prints() {
+    line=$1
+    shift
+    said=$(target/host/clear "$@") || true
+    [ "$said" = "$line" ] || {
+        echo "host: printed '$said' for $*"
+        exit 1
+    }
+}
+
+# The host says what is wrong with these arguments, prints nothing and exits with 2.
+declines() {
+    status=0
+    said=$(target/host/clear "$@" 2>target/host/told) || status=$?
+    [ "$status" -eq 2 ] && [ -z "$said" ] && [ -s target/host/told ] || {
+        echo "host: status $status, printed '$said' for $*"
+        exit 1
+    }
+}
+
+prints "$(cat crates/clearing/stdout)" 3 1 9 target/host/sheet
+prints "$(cat crates/clearing/stdout)" 3 1 4294967295 target/host/sheet
+prints "batch 70000 spent calls 1 marks 0" 03 1 1 target/host/sheet
+prints "refused 8 place 0" 4294967295 1 9 target/host/sheet
+for bad in 4294967296 99999999999999999999999999 -1 +1 '' ' 1' 1x 0x1 1.0; do
+    declines "$bad" 1 9 target/host/sheet
+    declines 3 "$bad" 9 target/host/sheet
+    declines 3 1 "$bad" target/host/sheet
+done
+declines 3 1 9
+declines 3 1 9 target/host/no-such-sheet
+declines 3 1 9 target/host
+echo "host: printed the sample's line, and declined what is no number"
+rustc --edition 2021 -O host/differential.rs -L target/staticlib -l static=engine -o target/host/differential
 target/host/differential "${1:-200000}"

@@ -1,17 +1,30 @@
-/* The terms engine's C interface. Each part is a static library of its own, written by `rt staticlib NAME` to
-   target/staticlib/libNAME.a: engine has run, alike has alike, code has the three functions on codes.
-   Every function answers for every input, allocates nothing and touches nothing outside the buffers that it is lent. */
+/* The terms engine's C interface. `rt staticlib engine` writes the library, target/staticlib/libengine.a, for x86-64 Linux.
+
+   Every function answers for every input, allocates nothing, keeps no state, and touches nothing but its stack and the
+   buffers that it is lent. The host sees to this, which nothing checks:
+
+   - A sheet's buffer has at least `length` bytes and a table at least `cells` cells. They must be valid during the call, and
+     need live no longer: the library keeps no pointer. Meanwhile nobody writes them, and nobody reads the table. A pointer may
+     be null where its length is 0. The two sheets of alike may share a buffer.
+   - There is enough stack: run takes about 100 KB at its deepest, alike 74 KB, covering_code 32 KB (docs/BENCH.md).
+
+   In every reply `number` and `place` are the refusal's number and place (README.md has the table); both are 0 where nothing
+   is refused, and a refusal is told by number not 0. What does not belong to an answer is 0. */
 #ifndef ENGINE_H
 #define ENGINE_H
 
 #include <stddef.h>
 #include <stdint.h>
 
+#ifdef __cplusplus
+extern "C" {
+#endif
+
 /* What an answer of run is. */
 enum { ENGINE_REFUSED = 0, ENGINE_CLEAR = 1, ENGINE_NONE = 2, ENGINE_SPENT = 3 };
 
-/* A refusal has number and place, and 0 in every other field. Clear has the assignment (bit v - 1 is 1 when variable v is
-   paid) and the calls needed, none the calls needed, spent the budget. */
+/* Clear has the assignment (bit v - 1 of marks is 1 where variable v is paid) and the calls needed, none the calls needed,
+   spent the budget as its calls. */
 struct reply {
     uint32_t verdict;
     uint32_t batch;
@@ -24,10 +37,10 @@ struct reply {
 /* Decides the sheet with blocks of block_length variables and codes of the radius given, within budget calls. */
 struct reply run(uint32_t block_length, uint32_t radius, uint32_t budget, const uint8_t *sheet, size_t length);
 
-/* What an answer of alike is. */
+/* What an answer of alike is; a refusal is ENGINE_REFUSED. */
 enum { ENGINE_ALIKE = 1, ENGINE_DIFFERENT = 2 };
 
-/* A refusal (answer ENGINE_REFUSED) says which sheet it concerns, 1 or 2, with number and place. */
+/* A refusal says which sheet it is about, 1 or 2; without one `sheet` is 0. */
 struct alike_reply {
     uint32_t answer;
     uint32_t sheet;
@@ -38,18 +51,23 @@ struct alike_reply {
 /* Whether two sheets have as many variables and, as sets of literals, the same clauses. */
 struct alike_reply alike(const uint8_t *first, size_t first_length, const uint8_t *second, size_t second_length);
 
-/* The number asked for, or the refusal's number and place. */
-struct code_reply {
-    uint32_t refusal;
-    uint32_t place;
+/* The number asked for is `result`. */
+struct number_reply {
+    uint32_t result;
     uint32_t number;
+    uint32_t place;
 };
 
-/* Writes the covering code of length t and radius s to the first cells of the table; the number is that of its words. */
-struct code_reply covering_code(uint32_t t, uint32_t s, uint16_t *table, size_t cells);
+/* Writes the covering code of length t (1 to 12) and radius s (0 to t) to the first cells of the table, which has at least
+   2^t cells; the result is the number of its words. The other cells stay as they were, and a refusal leaves the whole table. */
+struct number_reply covering_code(uint32_t t, uint32_t s, uint16_t *table, size_t cells);
 
-/* The number of words in a ball, and the least number of words that any covering code can have. */
-struct code_reply ball_volume(uint32_t t, uint32_t s);
-struct code_reply covering_floor(uint32_t t, uint32_t s);
+/* The number of words in a ball, and the least number of words that any covering code can have; t and s are 0 to 12. */
+struct number_reply ball_volume(uint32_t t, uint32_t s);
+struct number_reply covering_floor(uint32_t t, uint32_t s);
+
+#ifdef __cplusplus
+}
+#endif
 
 #endif

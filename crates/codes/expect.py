@@ -64,8 +64,8 @@ def main():
     for t, s, cells in (1, 0, 0), (1, 1, 1), (1, 1, 2), (3, 1, 7), (3, 1, 8), (3, 4, 7), (12, 12, 4095), (12, 12, 4096):
         print('code %d %d %s' % (t, s, coded(t, s, cells)))
     words = greedy(4, 1)
-    for refusal, place, number in (0, 0, len(words)), (8, 0, 0), (0, 0, volume(12, 6)), (8, 0, 0), (0, 0, floor(4, 1)), (8, 0, 0):
-        print('reply', refusal, place, number)
+    for result, number, place in (len(words), 0, 0), (0, 8, 0), (volume(12, 6), 0, 0), (0, 8, 0), (floor(4, 1), 0, 0), (0, 8, 0):
+        print('reply', result, number, place)
     print('sum', checksum(words + [BLANK] * (CELLS - len(words))))
 
 

@@ -5,14 +5,13 @@ use Prim.Native.Nat.{ℕ}
 use lib.Dec.{eqb}
 use Rattle.formula.specs.Formula.{Formula}
 use Rattle.formula.specs.Sheet.{Result, accepted, refused, parse}
-use Rattle.formula.specs.Sets.{stands}
+use Rattle.formula.specs.Sets.{sameClauses}
 use Rattle.alike.specs.declared.Comparison.{Comparison}
 use Rattle.alike.specs.declared.Comparison.the-variants.{Alike, Different, Refused}
-use Rattle.alike.specs.declared.AlikeReply.{AlikeReply}
 
 -- n is equal, and the clauses, each taken as a set of literals, form the same set: batch, order and repetition do not count.
 unfoldable pub alike : Formula → Formula → Bool
-alike f g = eqb (f .n) (g .n) && (stands (f .clauses) (g .clauses) && stands (g .clauses) (f .clauses))
+alike f g = eqb (f .n) (g .n) && sameClauses (f .clauses) (g .clauses)
 
 -- which sheet a refusal is about
 abbrev pub FIRST : ℕ
@@ -28,26 +27,5 @@ compared (accepted f) (refused number place) = Refused SECOND (record { number =
 compared (accepted f) (accepted g) = cond (alike f g) Alike Different
 
 -- What two lists of bytes are to each other.
-unfoldable pub answerTo : List ℕ → List ℕ → Comparison
-answerTo s t = compared (parse s) (parse t)
-
--- ---- the numbers of an answer, as a host in C has them
-
-abbrev pub REFUSED : ℕ
-REFUSED = 0
-
-abbrev pub ALIKE : ℕ
-ALIKE = 1
-
-abbrev pub DIFFERENT : ℕ
-DIFFERENT = 2
-
--- A refusal has number and place and says which sheet it is about; everything else is 0.
-unfoldable pub numbersOf : Comparison → AlikeReply
-numbersOf Alike = record { answer = ALIKE; sheet = 0; number = 0; place = 0 }
-numbersOf Different = record { answer = DIFFERENT; sheet = 0; number = 0; place = 0 }
-numbersOf (Refused sheet refusal) = record { answer = REFUSED; sheet = sheet; number = refusal .number; place = refusal .place }
-
--- What `alike` gives.
-unfoldable pub replyTo : List ℕ → List ℕ → AlikeReply
-replyTo s t = numbersOf (answerTo s t)
+unfoldable pub comparison : List ℕ → List ℕ → Comparison
+comparison s t = compared (parse s) (parse t)

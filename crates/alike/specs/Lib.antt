@@ -1,5 +1,3 @@
 -- The definitions and laws of the crate alike.
 pub mod Alike
-pub mod Rows
 pub mod AlikeLaws
-pub mod Answers

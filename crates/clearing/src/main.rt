@@ -1,41 +1,23 @@
 // The program of paper 01: reads the plan and the budget as three 32-bit words, low byte first, and
 // then a sheet, and prints the engine's answer on one line.
 use engine::Reply;
+use formula::word_at;
 use libc::STDIN_FILENO;
 use libc::STDOUT_FILENO;
-ghost use Prim.Native.Nat.{_+_, _<_, _≤_};
-ghost use lib.ListN.{length};
-
-fn wide(x: u8) -> u32
-    ensures { λ r. ⌜ r < 256 ⌝ }
-{
-    x as u32
-}
-
-// The word that begins at a byte.
-fn word(input: &[u8], at: usize) -> u32
-    requires { ⌜ at + 3 < length (now input) ⌝ }
-{
-    wide(input[at])
-        + 256 * wide(input[at + 1])
-        + 65536 * wide(input[at + 2])
-        + 16777216 * wide(input[at + 3])
-}
+ghost use mathlib.Core.Path.{_≡_};
+ghost use Rattle.clearing.specs.Program.{programReply};
 
 // Input that is too short for a plan and a budget is a bad plan.
-fn answer(input: &[u8]) -> Reply {
+fn answer(input: &[u8]) -> Reply
+    ensures { λ r. ⌜ r ≡ programReply (now (input .entry)) ⌝ }
+{
     if input.len() < 12 {
-        return Reply {
-            verdict: engine::REFUSED,
-            batch: 0,
-            marks: 0,
-            calls: 0,
-            number: code::BAD_PLAN,
-            place: 0,
-        };
+        return engine::declined(code::BAD_PLAN, 0);
     }
-    let sheet = &input[12..];
-    engine::run(word(input, 0), word(input, 4), word(input, 8), sheet)
+    let size = word_at(input, 0);
+    let radius = word_at(input, 1);
+    let budget = word_at(input, 2);
+    engine::run(size, radius, budget, &input[12..])
 }
 
 fn print_number(name: &[u8], n: u32) {

@@ -11,12 +11,13 @@ use lib.Dec.{leb·zero}
 use lib.ListN.{length, take}
 use lib.Seq.{take-length}
 use lib.Pow.{pow-pos}
-use Rattle.words.specs.Lists.{some, keep, In, keep-in, in-keep, in-some, in-span, span-in, length-span}
+use Rattle.words.specs.Lists.{some, keep, In}
+use Rattle.words.specs.ListLaws.{keep-in, in-keep, in-some, in-span, span-in, length-span}
 use Rattle.words.specs.Bits.{distance}
 use Rattle.words.specs.BitLaws.{distance-self}
 use Rattle.code.specs.Covering.{Covers, Within}
 use Rattle.code.specs.Code.{wordsOf, near, gain, beats, best, chosen, without, greedy, code, outside, uncovered}
-use Rattle.code.specs.Keeping.{length-in, keep-all, keep-none, keep-less, keep-keep, keep-same, keep-split}
+use Rattle.code.specs.KeepLaws.{length-in, keep-all, keep-none, keep-less, keep-keep, keep-same, keep-split}
 
 -- ---- the best number
 
@@ -49,7 +50,8 @@ module _ (f : ℕ → ℕ) where
   best-most zero v l = absurd (not-suc-le-zero l)
   best-most (suc n) v l = go (beats (f n) (f (best f n))) refl (eq-or-lt-of-le (le-of-suc-le-suc l)) (best-most n v)
     where
-      go : (b : Bool) → beats (f n) (f (best f n)) ≡ b → (v ≡ n) ⊎ (v < n) → (v < n → f v ≤ f (best f n)) → f v ≤ f (cond b n (best f n))
+      go : (b : Bool) → beats (f n) (f (best f n)) ≡ b → (v ≡ n) ⊎ (v < n) → (v < n → f v ≤ f (best f n)) →
+          f v ≤ f (cond b n (best f n))
       go true e (inl i) h = le-of-eq (ap f i)
       go true e (inr i) h = le-of-lt (lt-of-le-of-lt (h i) (beats-true (f n) (f (best f n)) e))
       go false e (inl i) h = rw i (beats-false _ _ e)
@@ -61,7 +63,8 @@ module _ (f : ℕ → ℕ) where
   best-first zero v l = absurd (not-suc-le-zero l)
   best-first (suc n) v l = go (beats (f n) (f (best f n))) refl l (best-first n v)
     where
-      go : (b : Bool) → beats (f n) (f (best f n)) ≡ b → v < cond b n (best f n) → (v < best f n → f v < f (best f n)) → f v < f (cond b n (best f n))
+      go : (b : Bool) → beats (f n) (f (best f n)) ≡ b → v < cond b n (best f n) →
+          (v < best f n → f v < f (best f n)) → f v < f (cond b n (best f n))
       go true e l′ below = lt-of-le-of-lt (best-most n v l′) (beats-true (f n) (f (best f n)) e)
       go false e l′ below = below l′
 
@@ -82,7 +85,8 @@ unfolding chosen gain Within
 chosen-gains t s left h x i =
     lt-of-lt-of-le (length-in (in-keep (near s x) left x i (near-self s x))) (best-most (gain s left) (2 ^ t) x (h x i))
 
-without-less : (t s : ℕ) (left : List ℕ) → Within t left → (x : ℕ) → In x left → length (without s (chosen t s left) left) < length left
+without-less : (t s : ℕ) (left : List ℕ) → Within t left → (x : ℕ) → In x left →
+    length (without s (chosen t s left) left) < length left
 unfolding without gain
 without-less t s left h x i =
     let g : 0 < length (keep (near s (chosen t s left)) left) = chosen-gains t s left h x i in
@@ -113,15 +117,19 @@ outside-cons s w c xs = keep-same _ _ xs (λ x i. not-or (near s w x) _) ∙ sym
 -- nothing is left outside a covering
 pub covers-outside : (t s : ℕ) (c : List ℕ) → Covers t s c → outside s c (wordsOf t) ≡ []
 unfolding Covers outside Within near
-covers-outside t s c h = keep-none _ (wordsOf t) (λ x i. let (w, j, d) = h x (words-within t x i) in ap not (in-some (λ v. near s v x) c w j (le-leb _ _ d)))
+covers-outside t s c h =
+    keep-none _ (wordsOf t) (λ x i.
+    let (w, j, d) = h x (words-within t x i) in
+    ap not (in-some (λ v. near s v x) c w j (le-leb _ _ d)))
 
 -- No ball holds more than v words of xs: then the balls around c hold at most length c * v of them.
-pub outside-most : (s v : ℕ) (c xs : List ℕ) → ((w : ℕ) → gain s xs w ≤ v) → length xs ≤ length c * v + length (outside s c xs)
+pub outside-most : (s v : ℕ) (c xs : List ℕ) → ((w : ℕ) → gain s xs w ≤ v) →
+    length xs ≤ length c * v + length (outside s c xs)
 unfolding gain without
 outside-most s v [] xs h = rw (outside-nil, zero-mul, zero-add) (le-refl (length xs))
 outside-most s v (w ∷ c) xs h =
-    rw (outside-cons, suc-mul)
-    (omega (arith, h w, keep-split (near s w) xs, outside-most s v c (without s w xs) (λ u. le-trans (keep-less (near s u) _ xs) (h u))))
+    let rest = outside-most s v c (without s w xs) (λ u. le-trans (keep-less (near s u) _ xs) (h u)) in
+    rw (outside-cons, suc-mul) (omega (arith, h w, keep-split (near s w) xs))
 
 -- ---- all steps
 
@@ -131,7 +139,8 @@ unfolding greedy near without
 greedy-covers t s zero [] h l x i = absurd (List·Memᴰ·not-nil i)
 greedy-covers t s zero (y ∷ left) h l x i = absurd (not-suc-le-zero l)
 greedy-covers t s (suc n) [] h l x i = absurd (List·Memᴰ·not-nil i)
-greedy-covers t s (suc n) (y ∷ left) h l x i = go (near s w x) refl (greedy-covers t s n rest (without-within t s w (y ∷ left) h) fewer x)
+greedy-covers t s (suc n) (y ∷ left) h l x i =
+    go (near s w x) refl (greedy-covers t s n rest (without-within t s w (y ∷ left) h) fewer x)
   where
     w : ℕ
     w = chosen t s (y ∷ left)
@@ -166,7 +175,8 @@ greedy-size t s (suc n) (x ∷ left) = suc-le-suc (greedy-size t s n _)
 pub code-covers : (t s : ℕ) → Covers t s (code t s)
 unfolding Covers code wordsOf
 code-covers t s x h =
-    greedy-covers t s (2 ^ t) (wordsOf t) (words-within t) (le-of-eq (length-span 0 (2 ^ t))) x (in-span 0 (2 ^ t) x zero-le (rw zero-add h))
+    greedy-covers t s (2 ^ t) (wordsOf t) (words-within t) (le-of-eq (length-span 0 (2 ^ t))) x
+    (in-span 0 (2 ^ t) x zero-le (rw zero-add h))
 
 -- Each word of the code has length t.
 pub code-within : (t s : ℕ) → Within t (code t s)
@@ -186,14 +196,17 @@ greedy-steps : (P : List ℕ → List ℕ → Type 0) (t s : ℕ) →
 unfolding greedy
 greedy-steps P t s step zero left h k l = absurd (not-suc-le-zero l)
 greedy-steps P t s step (suc n) [] h k l = absurd (not-suc-le-zero l)
-greedy-steps P t s step (suc n) (x ∷ left) h zero l = rw (outside-cons, outside-nil, outside-nil) (step (x ∷ left) x h (List·Memᴰ·head refl))
+greedy-steps P t s step (suc n) (x ∷ left) h zero l =
+    rw (outside-cons, outside-nil, outside-nil) (step (x ∷ left) x h (List·Memᴰ·head refl))
 greedy-steps P t s step (suc n) (x ∷ left) h (suc k) l =
     simp outside-cons (greedy-steps P t s step n _ (without-within t s _ (x ∷ left) h) k (le-of-suc-le-suc l))
 
 -- Each word covers a new one as it joins,
 pub code-closes : (t s k : ℕ) → k < length (code t s) → uncovered t s (suc k) < uncovered t s k
 unfolding uncovered code
-code-closes t s k l = greedy-steps (λ before after. length after < length before) t s (λ left x h i. without-less t s left h x i) (2 ^ t) (wordsOf t) (words-within t) k l
+code-closes t s k l =
+    greedy-steps (λ before after. length after < length before) t s (λ left x h i. without-less t s left h x i)
+    (2 ^ t) (wordsOf t) (words-within t) k l
 
 -- and in the end none is left.
 pub code-ends : (t s : ℕ) → uncovered t s (length (code t s)) ≡ 0

@@ -1,4 +1,5 @@
--- The covering promise: what a crate above may cite of a block code, and all that it may cite.
+-- The covering promise: all that a verdict, and the bound on the calls, may cite of a block code. (The count of calls depends on the words
+-- of the code and their order too.)
 use Prim.Native.Nat.{ℕ, _^_, _≤_, _<_}
 use mathlib.Core.List.{List}
 use Rattle.words.specs.Lists.{In}

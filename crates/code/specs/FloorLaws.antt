@@ -9,7 +9,8 @@ use native.Mathlib.Omega.{arith}
 use borrow.Author.Tests.{leb-true, le-leb}
 use lib.Dec.{leb}
 use lib.ListN.{length}
-use Rattle.words.specs.Lists.{first, span, length-span}
+use Rattle.words.specs.Lists.{first, span}
+use Rattle.words.specs.ListLaws.{length-span}
 use Rattle.code.specs.Covering.{Covers}
 use Rattle.code.specs.Code.{wordsOf, gain, ball}
 use Rattle.code.specs.Volume.{volume, floor}
@@ -33,7 +34,8 @@ module _ (p : ℕ → Bool) where
   first-least i zero d m q l e = omega arith
   first-least i (suc n) d m q l e = go (p i) refl (eq-or-lt-of-le l) (λ l′. first-least (suc i) n d m (omega arith) l′ e)
     where
-      go : (b : Bool) → p i ≡ b → (i ≡ m) ⊎ (i < m) → (i < m → first p (span (suc i) n) d ≤ m) → cond b i (first p (span (suc i) n) d) ≤ m
+      go : (b : Bool) → p i ≡ b → (i ≡ m) ⊎ (i < m) → (i < m → first p (span (suc i) n) d ≤ m) →
+          cond b i (first p (span (suc i) n) d) ≤ m
       go true e′ c h = l
       go false e′ (inl c) h = absurd (false≢true (sym e′ ∙ ap p c ∙ e))
       go false e′ (inr c) h = h c
@@ -44,7 +46,8 @@ module _ (p : ℕ → Bool) where
 pub floor-enough : (t s : ℕ) → 2 ^ t ≤ floor t s * volume t s
 unfolding floor
 floor-enough t s =
-    leb-true _ _ (first-passes (λ m. leb (2 ^ t) (m * volume t s)) _ (2 ^ t) (le-leb _ _ (le-mul-of-pos-right (2 ^ t) (volume-pos t s))))
+    let enough = le-leb _ _ (le-mul-of-pos-right (2 ^ t) (volume-pos t s)) in
+    leb-true _ _ (first-passes (λ m. leb (2 ^ t) (m * volume t s)) _ (2 ^ t) enough)
 
 -- and it is least.
 pub floor-least : (t s m : ℕ) → 2 ^ t ≤ m * volume t s → floor t s ≤ m
@@ -55,8 +58,8 @@ floor-least t s m h = first-least (λ n. leb (2 ^ t) (n * volume t s)) 0 (2 ^ t)
 pub sphere-bound : (t s : ℕ) (c : List ℕ) → Covers t s c → floor t s ≤ length c
 unfolding ball gain wordsOf
 sphere-bound t s c h =
-    floor-least t s (length c)
-    (omega (arith, outside-most s (volume t s) c (wordsOf t) (ball-most t s), ap length (covers-outside t s c h), length-span 0 (2 ^ t)))
+    let most = outside-most s (volume t s) c (wordsOf t) (ball-most t s) in
+    floor-least t s (length c) (omega (arith, ap length (covers-outside t s c h), length-span 0 (2 ^ t)))
 
 -- The floor as a quotient, rounded up.
 pub floor-quotient : (t s : ℕ) → (2 ^ t + (volume t s - 1)) / volume t s ≡ floor t s

@@ -1,4 +1,5 @@
--- Laws of the greedy construction as a whole: how its arrays start, what a word that joins does to them, and what they say in the end.
+-- Laws of the greedy construction as a whole: how its arrays start, what a word that joins does to them, and what they say in
+-- the end.
 use mathlib.Core.Path.{_≡_, refl, sym, ap, _∙_}
 use mathlib.Core.Bool.{Bool, true, false, cond, not, false≢true}
 use mathlib.Core.List.{List, [], _∷_, _++_, append-nil, List·Memᴰ·head}
@@ -12,15 +13,16 @@ use lib.Bits.{bitXor, xor-lt}
 use lib.Pow.{pow-pos}
 use lib.ListN.{length, getD, take, drop, set, length-set, replicate, length-replicate, getD-replicate, take-append-drop}
 use lib.Seq.{append-snoc, take-suc-set, drop-set-lt, drop-drop, length-take-le, getD-take}
-use Rattle.words.specs.Lists.{some, keep, span, keep-in, in-keep, in-span, span-in, in-some, some-in, length-span, length-keep}
+use Rattle.words.specs.Lists.{some, keep, span, In}
+use Rattle.words.specs.ListLaws.{keep-in, in-keep, in-span, span-in, in-some, some-in, length-span, length-keep}
 use Rattle.words.specs.Bits.{distance}
 use Rattle.code.specs.Covering.{Within}
 use Rattle.code.specs.Code.{wordsOf, near, ball, gain, beats, best, chosen, without, greedy, code}
-use Rattle.code.specs.Keeping.{keep-all, keep-same, keep-split}
+use Rattle.code.specs.KeepLaws.{keep-all, keep-same, keep-split}
 use Rattle.code.specs.CodeLaws.{best-le, chosen-lt, chosen-gains, words-within}
 use Rattle.code.specs.VolumeLaws.{ball-size}
-use Rattle.code.specs.Machine.{flagged, listed, Offsets, Counts, Growing}
-use Rattle.code.specs.Operations.{written, Filled}
+use Rattle.code.specs.Machine.{flagged, listed, Offsets, Counts, Growing, Filled}
+use Rattle.code.specs.Operations.{written}
 use Rattle.code.specs.MachineLaws.{near-zero, getD-in}
 
 -- ---- the ball around 0 serves for every word
@@ -37,7 +39,8 @@ keep-fresh p i (suc n) j l = go (p i) j l (keep-fresh p (suc i) n)
     above : (k : ℕ) → k < length rest → getD rest k 0 ≡ i → ⊥
     above k h e = let l′ = span-in (suc i) n _ (keep-in p (span (suc i) n) _ (getD-in rest k h) .0) in omega arith
 
-    go : (b : Bool) (k : ℕ) → k < length (cond b (i ∷ rest) rest) → ((k′ : ℕ) → k′ < length rest → some (eqb (getD rest k′ 0)) (take k′ rest) ≡ false) →
+    go : (b : Bool) (k : ℕ) → k < length (cond b (i ∷ rest) rest) →
+        ((k′ : ℕ) → k′ < length rest → some (eqb (getD rest k′ 0)) (take k′ rest) ≡ false) →
         some (eqb (getD (cond b (i ∷ rest) rest) k 0)) (take k (cond b (i ∷ rest) rest)) ≡ false
     go true zero h below = refl
     go true (suc k) h below = rw (ne-eqb _ _ (above k (le-of-suc-le-suc h))) (below k (le-of-suc-le-suc h))
@@ -49,7 +52,9 @@ keep-has p n z l = go (p z) refl (some (eqb z) (keep p (span 0 n))) refl
     go : (b : Bool) → p z ≡ b → (a : Bool) → some (eqb z) (keep p (span 0 n)) ≡ a → a ≡ b
     go true e true h = refl
     go false e false h = refl
-    go true e false h = absurd (false≢true (sym h ∙ in-some (eqb z) _ z (in-keep p (span 0 n) z (in-span 0 n z zero-le (rw zero-add l)) e) (eq-eqb z z refl)))
+    go true e false h =
+        let kept = in-keep p (span 0 n) z (in-span 0 n z zero-le (rw zero-add l)) e in
+        absurd (false≢true (sym h ∙ in-some (eqb z) _ z kept (eq-eqb z z refl)))
     go false e true h =
         let (y, i, q) = some-in (eqb z) (keep p (span 0 n)) h in
         absurd (false≢true (sym e ∙ ap p (eqb-true z y q) ∙ keep-in p (span 0 n) y i .1))
@@ -80,9 +85,10 @@ module _ {A : Type 0} (m n : ℕ) (a : A) {xs : List A} (e : xs ≡ replicate m 
   part-at d k h = getD-take n xs k d h ∙ rw e (getD-replicate m k a d (omega arith))
 
 -- every word is flagged, and every gain is the size of the ball
-pub grow-start : {t s : ℕ} {offsets gains : List ℕ} {left : List Bool} {table : List ℕ} → 2 ^ t ≤ 4096 → 2 ^ t ≤ length table →
-    offsets ≡ ball t s 0 → length gains ≡ 2 ^ t → length left ≡ 2 ^ t → ((w : ℕ) → w < 2 ^ t → getD gains w 0 ≡ length offsets) →
-    ((x : ℕ) → x < 2 ^ t → getD left x false ≡ true) → Growing t s offsets gains left table table 0
+pub grow-start : {t s : ℕ} {offsets gains : List ℕ} {left : List Bool} {table : List ℕ} →
+    2 ^ t ≤ 4096 → 2 ^ t ≤ length table → offsets ≡ ball t s 0 → length gains ≡ 2 ^ t → length left ≡ 2 ^ t →
+    ((w : ℕ) → w < 2 ^ t → getD gains w 0 ≡ length offsets) → ((x : ℕ) → x < 2 ^ t → getD left x false ≡ true) →
+    Growing t s offsets gains left table table 0
 unfolding flagged wordsOf Within code
 grow-start {t} {s} {offsets} {gains} {left} {table} a b o g f full flags = record {
   counts = record { offsets = rw (f, o) (ball-offsets t s); size = g ∙ sym f; counted = counted };
@@ -115,7 +121,8 @@ best-same f g (suc n) h = go (best f n) (best g n) (best-same f g n (λ v l. h v
     go : (a b : ℕ) → a ≡ b → a ≤ n → cond (beats (f n) (f a)) n a ≡ cond (beats (g n) (g b)) n b
     go a b e l = rw (h a (suc-le-suc l), h n (le-refl (suc n)), e) refl
 
-greedy-step : (t s n : ℕ) (left : List ℕ) → 0 < length left → greedy t s (suc n) left ≡ chosen t s left ∷ greedy t s n (without s (chosen t s left) left)
+greedy-step : (t s n : ℕ) (left : List ℕ) → 0 < length left →
+    greedy t s (suc n) left ≡ chosen t s left ∷ greedy t s n (without s (chosen t s left) left)
 unfolding greedy
 greedy-step t s n [] l = absurd (not-suc-le-zero l)
 greedy-step t s n (x ∷ left) l = refl
@@ -133,7 +140,9 @@ module _ {t s : ℕ} {ball gains : List ℕ} {left : List Bool} {before table : 
 
   gains-are : (v : ℕ) → v < 2 ^ t → getD gains v 0 ≡ gain s (flagged left) v
   unfolding gain Within
-  gains-are v l = g .counts .counted v (rw (g .words) l) ∙ ap length (keep-same _ _ (flagged left) (λ x i. g .same v x l (left-within x i)))
+  gains-are v l =
+      g .counts .counted v (rw (g .words) l)
+      ∙ ap length (keep-same _ _ (flagged left) (λ x i. g .same v x l (left-within x i)))
 
   -- w is the word that greedy chooses
   is-chosen : w ≡ chosen t s (flagged left)
@@ -174,17 +183,22 @@ module _ {t s : ℕ} {ball gains : List ℕ} {left : List Bool} {before table : 
           rw (left-next, e, greedy-step t s _ (flagged left) (omega (arith, fewer)), ← is-chosen) refl
 
       pub grow-next : Growing t s ball gains′ left′ before (set table count w) (count + 1)
-      grow-next = record {
-        counts = counts′;
-        words = size′ ∙ g .words;
-        small = g .small;
-        fits = g .fits;
-        same = g .same;
-        room = omega (arith, g .room, fewer);
-        size = length-set table count w ∙ g .size;
-        rest = rw (add-one, take-suc-set table count w grow-fits, append-snoc) (ap (λ (l : List ℕ). take count table ++ l) goes-on ∙ g .rest);
-        others = drop-set-lt (count + 1) table count w (omega arith) ∙ sym (drop-drop 1 count table) ∙ ap (drop 1) (g .others) ∙ drop-drop 1 count before;
-      }
+      grow-next =
+          let later : drop (count + 1) table ≡ drop (count + 1) before =
+          sym (drop-drop 1 count table) ∙ ap (drop 1) (g .others) ∙ drop-drop 1 count before in
+          record {
+            counts = counts′;
+            words = size′ ∙ g .words;
+            small = g .small;
+            fits = g .fits;
+            same = g .same;
+            room = omega (arith, g .room, fewer);
+            size = length-set table count w ∙ g .size;
+            rest =
+                rw (add-one, take-suc-set table count w grow-fits, append-snoc)
+                (ap (λ (l : List ℕ). take count table ++ l) goes-on ∙ g .rest);
+            others = drop-set-lt (count + 1) table count w (omega arith) ∙ later;
+          }
 
   -- once its gain is 0, nothing is left
   module _ (z : getD gains w 0 ≡ 0) where
@@ -194,9 +208,9 @@ module _ {t s : ℕ} {ball gains : List ℕ} {left : List Bool} {before table : 
         go : (l : List ℕ) → flagged left ≡ l → l ≡ []
         go [] e = refl
         go (x ∷ l) e =
-            let p : 0 < gain s (flagged left) (chosen t s (flagged left)) = chosen-gains t s (flagged left) left-within x (rw e (List·Memᴰ·head refl)) in
-            let c : ⊥ = omega (arith, z, gains-are w word-lt, ap (gain s (flagged left)) is-chosen) in
-            absurd c
+            let here : In x (flagged left) = rw e (List·Memᴰ·head refl) in
+            let gains-some = chosen-gains t s (flagged left) left-within x here in
+            absurd (omega (arith, z, gains-are w word-lt, ap (gain s (flagged left)) is-chosen))
 
     first-cells : take count table ≡ code t s
     first-cells = sym (append-nil (take count table)) ∙ (rw (nothing, greedy-stop) at (g .rest))

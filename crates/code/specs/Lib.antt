@@ -5,7 +5,7 @@ pub mod Volume
 pub mod Operations
 pub mod Table
 pub mod Machine
-pub mod Keeping
+pub mod KeepLaws
 pub mod CodeLaws
 pub mod VolumeLaws
 pub mod FloorLaws

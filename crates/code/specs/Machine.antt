@@ -9,6 +9,11 @@ use lib.Bits.{bitXor}
 use lib.ListN.{length, getD, take, drop}
 use Rattle.words.specs.Lists.{some, keep, span, In}
 use Rattle.code.specs.Code.{near, greedy, code}
+use Rattle.code.specs.Operations.{written}
+
+-- the cells of a table that has room for any code: 2 ^ blockLimit
+abbrev pub codeCells : ℕ
+codeCells = 4096
 
 -- the largest f below n
 unfoldable pub peak : (ℕ → ℕ) → ℕ → ℕ
@@ -56,10 +61,16 @@ pub record Joining (ball gains : List ℕ) (before left : List Bool) (w j : ℕ)
 pub record Growing (t s : ℕ) (ball gains : List ℕ) (left : List Bool) (before table : List ℕ) (count : ℕ) : Type 0 where
   pub counts : Counts ball gains left
   pub words : length left ≡ 2 ^ t
-  pub small : 2 ^ t ≤ 4096
+  pub small : 2 ^ t ≤ codeCells
   pub fits : 2 ^ t ≤ length before
   pub same : (w x : ℕ) → w < 2 ^ t → x < 2 ^ t → listed ball w x ≡ near s w x
   pub room : count + length (flagged left) ≤ 2 ^ t
   pub size : length table ≡ length before
   pub rest : take count table ++ greedy t s (2 ^ t - count) (flagged left) ≡ code t s
   pub others : drop count table ≡ drop count before
+
+-- what the construction of a code answers, and what it leaves
+pub record Filled (t s r : ℕ) (before after : List ℕ) : Type 0 where
+  pub count : r ≡ length (code t s)
+  pub most : r ≤ 2 ^ t
+  pub cells : after ≡ written t s before

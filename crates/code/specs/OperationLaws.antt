@@ -6,18 +6,29 @@ use Prim.Native.Nat.{ℕ, _^_, _≤_, _<_}
 use borrow.Author.Tests.{leb-true, le-leb, lt-leb}
 use lib.Dec.{leb}
 use lib.ListN.{length}
-use Rattle.words.specs.Lists.{and-left, and-right}
+use Rattle.words.specs.ListLaws.{and-left, and-right}
 use Rattle.code.specs.declared.Answer.the-variants.{Number}
 use Rattle.code.specs.Code.{code}
-use Rattle.code.specs.Operations.{badPlan, shortTable, coded?, fits?, codeAnswer, written, codeTable, measured?}
+use Rattle.code.specs.Operations.{blockLimit, badPlan, shortTable, coded?, fits?, codeAnswer, written, codeTable, measured?}
 
-pub measured-le : (t s : ℕ) → measured? t s ≡ true → (t ≤ 12) × (s ≤ 12)
+pub measured-le : (t s : ℕ) → measured? t s ≡ true → (t ≤ blockLimit) × (s ≤ blockLimit)
 unfolding measured?
-measured-le t s e = (leb-true t 12 (and-left (leb t 12) (leb s 12) e), leb-true s 12 (and-right (leb t 12) (leb s 12) e))
+measured-le t s e = (
+  leb-true t blockLimit (and-left (leb t blockLimit) (leb s blockLimit) e),
+  leb-true s blockLimit (and-right (leb t blockLimit) (leb s blockLimit) e),
+)
 
-pub coded-le : (t s : ℕ) → coded? t s ≡ true → t ≤ 12
+pub coded-bounds : (t s : ℕ) → coded? t s ≡ true → (1 ≤ t) × (t ≤ blockLimit) × (s ≤ t)
 unfolding coded?
-coded-le t s e = leb-true t 12 (and-left (leb t 12) (leb s t) (and-right (leb 1 t) (leb t 12 && leb s t) e))
+coded-bounds t s e =
+    let rest = and-right (leb 1 t) (leb t blockLimit && leb s t) e in (
+      leb-true 1 t (and-left (leb 1 t) (leb t blockLimit && leb s t) e),
+      leb-true t blockLimit (and-left (leb t blockLimit) (leb s t) rest),
+      leb-true s t (and-right (leb t blockLimit) (leb s t) rest),
+    )
+
+pub coded-le : (t s : ℕ) → coded? t s ≡ true → t ≤ blockLimit
+coded-le t s e = coded-bounds t s e .1
 
 -- the three cases of `code`
 module _ (t s : ℕ) (table : List ℕ) where
@@ -29,6 +40,7 @@ module _ (t s : ℕ) (table : List ℕ) where
   unfolding codeAnswer codeTable fits?
   code-short e l = (rw (e, lt-leb _ _ l) refl, rw (e, lt-leb _ _ l) refl)
 
-  pub code-fits : coded? t s ≡ true → 2 ^ t ≤ length table → (Number (length (code t s)) ≡ codeAnswer t s table) × (written t s table ≡ codeTable t s table)
+  pub code-fits : coded? t s ≡ true → 2 ^ t ≤ length table →
+      (Number (length (code t s)) ≡ codeAnswer t s table) × (written t s table ≡ codeTable t s table)
   unfolding codeAnswer codeTable fits?
   code-fits e l = (rw (e, le-leb _ _ l) refl, rw (e, le-leb _ _ l) refl)

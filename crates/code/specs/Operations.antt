@@ -2,12 +2,10 @@
 -- the engine declines".
 use mathlib.Core.Bool.{Bool, cond, _&&_}
 use mathlib.Core.List.{List, _++_}
-use mathlib.Core.Path.{_≡_}
-use Prim.Native.Nat.{ℕ, _^_, _≤_}
+use Prim.Native.Nat.{ℕ, _^_}
 use lib.Dec.{leb}
 use lib.ListN.{length, drop}
 use Rattle.words.specs.declared.Refusal.{Refusal}
-use Rattle.code.specs.declared.Reply.{Reply}
 use Rattle.code.specs.declared.Answer.{Answer}
 use Rattle.code.specs.declared.Answer.the-variants.{Number, Refused}
 use Rattle.code.specs.Code.{code}
@@ -24,9 +22,13 @@ badPlan = Refused (refusal 8)
 abbrev pub shortTable : Answer
 shortTable = Refused (refusal 9)
 
+-- the longest block
+abbrev pub blockLimit : ℕ
+blockLimit = 12
+
 -- a length and a radius of which there is a code: t is 1 to 12, and s at most t
 unfoldable pub coded? : ℕ → ℕ → Bool
-coded? t s = leb 1 t && (leb t 12 && leb s t)
+coded? t s = leb 1 t && (leb t blockLimit && leb s t)
 
 -- the table has a cell for each word of length t
 unfoldable pub fits? : ℕ → List ℕ → Bool
@@ -40,27 +42,16 @@ codeAnswer t s table = cond (coded? t s) (cond (fits? t table) (Number (length (
 unfoldable pub written : ℕ → ℕ → List ℕ → List ℕ
 written t s table = code t s ++ drop (length (code t s)) table
 
--- what the construction of a code answers, and what it leaves
-pub record Filled (t s r : ℕ) (before after : List ℕ) : Type 0 where
-  pub count : r ≡ length (code t s)
-  pub most : r ≤ 2 ^ t
-  pub cells : after ≡ written t s before
-
 -- the table after `code`
 unfoldable pub codeTable : ℕ → ℕ → List ℕ → List ℕ
 codeTable t s table = cond (coded? t s) (cond (fits? t table) (written t s table) table) table
 
 -- a length and a radius of which there is a volume
 unfoldable pub measured? : ℕ → ℕ → Bool
-measured? t s = leb t 12 && leb s 12
+measured? t s = leb t blockLimit && leb s blockLimit
 
 unfoldable pub volumeAnswer : ℕ → ℕ → Answer
 volumeAnswer t s = cond (measured? t s) (Number (volume t s)) badPlan
 
 unfoldable pub floorAnswer : ℕ → ℕ → Answer
 floorAnswer t s = cond (measured? t s) (Number (floor t s)) badPlan
-
--- an answer in paper 01's numbers: the refusal's number and place, and the answer's number; what does not belong to it is 0
-unfoldable pub replyOf : Answer → Reply
-replyOf (Number n) = record { refusal = 0; place = 0; number = n }
-replyOf (Refused r) = record { refusal = r .number; place = r .place; number = 0 }

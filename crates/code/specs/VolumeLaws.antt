@@ -10,14 +10,15 @@ use lib.Dec.{leb, leb·zero, leb·suc-suc, leb·suc-zero}
 use lib.ListN.{length, length-append}
 use lib.Pow.{pow-pos}
 use lib.Count.{ones}
-use Rattle.words.specs.Lists.{keep, span, length-keep, length-span}
+use Rattle.words.specs.Lists.{keep, span}
+use Rattle.words.specs.ListLaws.{length-keep, length-span}
 use Rattle.words.specs.Bits.{distance}
 use Rattle.words.specs.BitLaws.{distance-blocks}
 use Rattle.code.specs.Code.{wordsOf, near, ball}
 use Rattle.code.specs.Volume.{choose, volume}
 use Rattle.code.specs.Covering.{Within}
 use Rattle.code.specs.CodeLaws.{words-within}
-use Rattle.code.specs.Keeping.{keep-more, keep-same, keep-none, keep-append, keep-shift, span-append}
+use Rattle.code.specs.KeepLaws.{keep-more, keep-same, keep-none, keep-append, keep-shift, span-append}
 
 choose-zero : (t : ℕ) → choose t 0 ≡ 1
 unfolding choose
@@ -54,17 +55,21 @@ around : ℕ → ℕ → ℕ → ℕ → ℕ
 around t r e s = length (keep (λ x. leb (e + distance r x) s) (wordsOf t))
 
 -- the distance of two words, by their bits from t up and below t
-apart : (t a b r x : ℕ) {y : ℕ} → r < 2 ^ t → x < 2 ^ t → b * 2 ^ t + x ≡ y → distance (a * 2 ^ t + r) y ≡ distance a b + distance r x
+apart : (t a b r x : ℕ) {y : ℕ} → r < 2 ^ t → x < 2 ^ t → b * 2 ^ t + x ≡ y →
+    distance (a * 2 ^ t + r) y ≡ distance a b + distance r x
 apart t a b r x h l e = rw (← e) (distance-blocks t a b r x h l)
 
 -- the ball around a word of length t + 1, by the words' bit t
-halves : (t s a r : ℕ) → r < 2 ^ t → length (ball (suc t) s (a * 2 ^ t + r)) ≡ around t r (distance a 0) s + around t r (distance a 1) s
+halves : (t s a r : ℕ) → r < 2 ^ t →
+    length (ball (suc t) s (a * 2 ^ t + r)) ≡ around t r (distance a 0) s + around t r (distance a 1) s
 unfolding ball around near wordsOf Within
 halves t s a r h =
     rw (words-suc, keep-append, length-append, keep-shift) (ap₂ _+_ (half 0 (λ x. rw (zero-mul, zero-add))) (half 1 (λ x. rw one-mul)))
   where
-    half : (b : ℕ) {f : ℕ → ℕ} → ((x : ℕ) → b * 2 ^ t + x ≡ f x) → length (keep (λ x. near s (a * 2 ^ t + r) (f x)) (wordsOf t)) ≡ around t r (distance a b) s
-    half b e = ap length (keep-same _ _ (wordsOf t) (λ x i. ap (λ (d : ℕ). leb d s) (apart t a b r x h (words-within t x i) (e x))))
+    half : (b : ℕ) {f : ℕ → ℕ} → ((x : ℕ) → b * 2 ^ t + x ≡ f x) →
+        length (keep (λ x. near s (a * 2 ^ t + r) (f x)) (wordsOf t)) ≡ around t r (distance a b) s
+    half b e =
+        ap length (keep-same _ _ (wordsOf t) (λ x i. ap (λ (d : ℕ). leb d s) (apart t a b r x h (words-within t x i) (e x))))
 
 -- a word whose bit t agrees is as near as its other bits are, and one whose bit t differs is one further away
 agreeing : (t r s : ℕ) → around t r 0 s ≡ length (ball t s r)
@@ -79,7 +84,8 @@ differing-zero : (t r : ℕ) → around t r 1 0 ≡ 0
 unfolding around
 differing-zero t r = ap length (keep-none _ (wordsOf t) (λ x i. rw (one-add, leb·suc-zero)))
 
-both : (t r : ℕ) → ((n : ℕ) → length (ball t n r) ≡ volume t n) → (s : ℕ) → around t r 0 s + around t r 1 s ≡ volume (suc t) s
+both : (t r : ℕ) → ((n : ℕ) → length (ball t n r) ≡ volume t n) → (s : ℕ) →
+    around t r 0 s + around t r 1 s ≡ volume (suc t) s
 both t r below zero = rw (agreeing, differing-zero, below, volume-zero, volume-zero)
 both t r below (suc s) = rw (agreeing, differing, below (suc s), below s) (sym (volume-step t s))
 
@@ -92,7 +98,8 @@ pub ball-size : (t s w : ℕ) → w < 2 ^ t → length (ball t s w) ≡ volume t
 unfolding distance ones
 ball-size zero s w h = let e : w ≡ 0 = omega arith in rw e (empty-word s)
 ball-size (suc t) s w h =
-    rw (← div-add-mod' w (2 ^ t), halves t s (w / 2 ^ t) (w % 2 ^ t) low) (go (w / 2 ^ t) high (both t (w % 2 ^ t) (λ n. ball-size t n (w % 2 ^ t) low) s))
+    rw (← div-add-mod' w (2 ^ t), halves t s (w / 2 ^ t) (w % 2 ^ t) low)
+    (go (w / 2 ^ t) high (both t (w % 2 ^ t) (λ n. ball-size t n (w % 2 ^ t) low) s))
   where
     low : w % 2 ^ t < 2 ^ t
     low = mod-lt w (pow-pos t)
@@ -104,7 +111,7 @@ ball-size (suc t) s w h =
         around t (w % 2 ^ t) (distance a 0) s + around t (w % 2 ^ t) (distance a 1) s ≡ volume (suc t) s
     go zero l e = e
     go (suc zero) l e = add-comm _ _ ∙ e
-    go (suc (suc a)) l e = absurd (not-suc-le-zero (le-of-suc-le-suc (le-of-suc-le-suc l)))
+    go (suc (suc a)) l e = absurd (omega arith)
 
 -- The ball around any number, of whatever length, holds no more.
 pub ball-most : (t s w : ℕ) → length (ball t s w) ≤ volume t s
@@ -130,4 +137,5 @@ volume-pos t (suc s) = let h = volume-pos t s in omega arith
 pub volume-most : (t s : ℕ) → volume t s ≤ 2 ^ t
 unfolding ball wordsOf
 volume-most t s =
-    le-trans (le-of-eq (sym (ball-size t s 0 (pow-pos t)))) (le-trans (length-keep (near s 0) (wordsOf t)) (le-of-eq (length-span 0 (2 ^ t))))
+    le-trans (le-of-eq (sym (ball-size t s 0 (pow-pos t))))
+    (le-trans (length-keep (near s 0) (wordsOf t)) (le-of-eq (length-span 0 (2 ^ t))))

@@ -1,5 +1,6 @@
 // The greedy construction of a covering code: the gain of every word is kept, and lowered as words
 // get covered.
+use crate::CELLS;
 ghost use mathlib.Core.Path.{_≡_};
 ghost use mathlib.Core.Bool.{not, true};
 ghost use Prim.Native.Nat.{ℕ, _^_, _≤_, _<_};
@@ -7,28 +8,28 @@ ghost use lib.Bits.{bitXor};
 ghost use lib.ListN.{length, getD, take, replicate};
 ghost use Rattle.words.specs.Lists.{keep, span};
 ghost use Rattle.code.specs.Code.{near, best};
-ghost use Rattle.code.specs.Machine.{peak, flagged, listed, Counts, Lowerable, Lowered};
-ghost use Rattle.code.specs.Operations.{Filled};
+ghost use Rattle.code.specs.Operations.{blockLimit};
+ghost use Rattle.code.specs.Machine.{codeCells, peak, flagged, listed, Counts, Lowerable, Lowered, Filled};
 
 // The number of words of length t.
 pub fn power(t: u32) -> usize
-    requires { ⌜ t ≤ 12 ⌝ }
-    ensures { λ r. ⌜ (r ≡ 2 ^ t) × (r ≤ 4096) ⌝ }
+    requires { ⌜ t ≤ blockLimit ⌝ }
+    ensures { λ r. ⌜ (r ≡ 2 ^ t) × (r ≤ codeCells) ⌝ }
 {
     1usize << t
 }
 
 // An array of its own function, here and below: a loop beside it would carry all its cells.
-fn repeated(v: u16) -> [u16; 4096]
-    ensures { λ r. ⌜ (4096 ≡ length r) × (r ≡ replicate 4096 v) ⌝ }
+fn repeated(v: u16) -> [u16; CELLS]
+    ensures { λ r. ⌜ (codeCells ≡ length r) × (r ≡ replicate codeCells v) ⌝ }
 {
-    [v; 4096]
+    [v; CELLS]
 }
 
-fn raised() -> [bool; 4096]
-    ensures { λ r. ⌜ r ≡ replicate 4096 true ⌝ }
+fn raised() -> [bool; CELLS]
+    ensures { λ r. ⌜ r ≡ replicate codeCells true ⌝ }
 {
-    [true; 4096]
+    [true; CELLS]
 }
 
 fn wide(x: u16) -> usize
@@ -121,7 +122,8 @@ fn cover(ball: &[u16], gains: &mut [u16], left: &mut [bool], w: usize)
     requires { ⌜ Counts (now ball) (now gains) (now left) ⌝ }
     requires { ⌜ w < length (now left) ⌝ }
     ensures counts { λ _. ⌜ Counts (now (ball .entry)) (now (gains .exit)) (now (left .exit)) ⌝ }
-    ensures left { λ _. ⌜ flagged (now (left .exit)) ≡ keep (λ x. not (listed (now (ball .entry)) w x)) (flagged (now (left .entry))) ⌝ }
+    ensures left { λ _. ⌜ flagged (now (left .exit)) ≡
+        keep (λ x. not (listed (now (ball .entry)) w x)) (flagged (now (left .entry))) ⌝ }
 {
     let mut j = 0;
     while j < ball.len() {
@@ -136,7 +138,7 @@ fn cover(ball: &[u16], gains: &mut [u16], left: &mut [bool], w: usize)
 
 // The code of length t and radius s in the first cells of the table; their number.
 pub fn fill(t: u32, s: u32, table: &mut [u16]) -> usize
-    requires { ⌜ (t ≤ 12) × (2 ^ t ≤ length (now table)) ⌝ }
+    requires { ⌜ (t ≤ blockLimit) × (2 ^ t ≤ length (now table)) ⌝ }
     ensures { λ r. ⌜ Filled t s r (now (table .entry)) (now (table .exit)) ⌝ }
 {
     let n = power(t);

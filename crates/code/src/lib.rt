@@ -8,7 +8,12 @@ use greedy::power;
 use volumes::volume_at;
 use words::Refusal;
 ghost use mathlib.Core.Path.{_≡_};
-ghost use Rattle.code.specs.Operations.{refusal, coded?, codeAnswer, codeTable, measured?, volumeAnswer, floorAnswer, replyOf};
+ghost use Rattle.code.specs.Operations.{refusal, coded?, codeAnswer, codeTable, measured?, volumeAnswer, floorAnswer};
+
+// The longest block, and room for any code: 2^12 words.
+pub const BLOCK_LIMIT: u32 = 12;
+
+pub const CELLS: usize = 4096;
 
 // Paper 01's refusal 8, for a length or a radius out of range.
 pub const BAD_PLAN: u32 = 8;
@@ -30,10 +35,10 @@ fn refuse(number: u32) -> Answer
 fn measured(t: u32, s: u32) -> bool
     ensures { λ r. ⌜ r ≡ measured? t s ⌝ }
 {
-    if 12 < t {
+    if BLOCK_LIMIT < t {
         return false;
     }
-    s <= 12
+    s <= BLOCK_LIMIT
 }
 
 pub fn volume(t: u32, s: u32) -> Answer
@@ -63,7 +68,7 @@ pub fn coded(t: u32, s: u32) -> bool
     if t < 1 {
         return false;
     }
-    if 12 < t {
+    if BLOCK_LIMIT < t {
         return false;
     }
     s <= t
@@ -80,51 +85,4 @@ pub fn code(t: u32, s: u32, table: &mut [u16]) -> Answer
         return refuse(SHORT_TABLE);
     }
     Answer::Number(fill(t, s, table) as u32)
-}
-
-// An answer in numbers, for a C host: what does not belong to it is 0.
-#[repr(C)]
-pub struct Reply {
-    pub refusal: u32,
-    pub place: u32,
-    pub number: u32,
-}
-
-fn in_numbers(answer: Answer) -> Reply
-    ensures { λ r. ⌜ r ≡ replyOf answer ⌝ }
-{
-    match answer {
-        Answer::Number(number) => Reply {
-            refusal: 0,
-            place: 0,
-            number,
-        },
-        Answer::Refused(refusal) => Reply {
-            refusal: refusal.number,
-            place: refusal.place,
-            number: 0,
-        },
-    }
-}
-
-#[no_mangle]
-pub extern "C" fn covering_code(t: u32, s: u32, table: &mut [u16]) -> Reply
-    ensures answer { λ r. ⌜ r ≡ replyOf (codeAnswer t s (now (table .entry))) ⌝ }
-    ensures cells { λ r. ⌜ now (table .exit) ≡ codeTable t s (now (table .entry)) ⌝ }
-{
-    in_numbers(code(t, s, table))
-}
-
-#[no_mangle]
-pub extern "C" fn ball_volume(t: u32, s: u32) -> Reply
-    ensures { λ r. ⌜ r ≡ replyOf (volumeAnswer t s) ⌝ }
-{
-    in_numbers(volume(t, s))
-}
-
-#[no_mangle]
-pub extern "C" fn covering_floor(t: u32, s: u32) -> Reply
-    ensures { λ r. ⌜ r ≡ replyOf (floorAnswer t s) ⌝ }
-{
-    in_numbers(floor(t, s))
 }

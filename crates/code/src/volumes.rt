@@ -1,4 +1,5 @@
 // The volumes of the balls, as a table.
+ghost use Rattle.code.specs.Operations.{blockLimit};
 ghost use mathlib.Core.Path.{_≡_};
 ghost use mathlib.Core.Bool.{true};
 ghost use Prim.Native.Nat.{_≤_};
@@ -187,7 +188,7 @@ fn volumes() -> [u32; 169]
 
 // V(t, s). Nothing else reads the table.
 pub fn volume_at(t: u32, s: u32) -> u32
-    requires { ⌜ (t ≤ 12) × (s ≤ 12) ⌝ }
+    requires { ⌜ (t ≤ blockLimit) × (s ≤ blockLimit) ⌝ }
     ensures { λ r. ⌜ r ≡ volume t s ⌝ }
 {
     let table = volumes();

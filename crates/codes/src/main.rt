@@ -2,7 +2,7 @@
 // checksum of its words, every volume and floor, every refusal, and the cells that stay as they
 // were. expect.py beside src/ works out what it must write, on its own.
 use code::Answer;
-use code::Reply;
+use engine::NumberReply;
 use libc::STDOUT_FILENO;
 ghost use mathlib.Core.Path.{_≡_};
 ghost use lib.ListN.{length};
@@ -143,23 +143,23 @@ fn tables() {
     show_table(12, 12, 4096);
 }
 
-fn show_reply(reply: Reply) {
+fn show_reply(reply: NumberReply) {
     text(b"reply");
-    number(reply.refusal as u64);
-    number(reply.place as u64);
+    number(reply.result as u64);
     number(reply.number as u64);
+    number(reply.place as u64);
     text(b"\n");
 }
 
 // The same operations as a C host calls them.
 fn replies() {
     let mut cells = blank();
-    show_reply(code::covering_code(4, 1, &mut cells));
-    show_reply(code::covering_code(4, 5, &mut cells));
-    show_reply(code::ball_volume(12, 6));
-    show_reply(code::ball_volume(13, 6));
-    show_reply(code::covering_floor(4, 1));
-    show_reply(code::covering_floor(4, 13));
+    show_reply(engine::covering_code(4, 1, &mut cells));
+    show_reply(engine::covering_code(4, 5, &mut cells));
+    show_reply(engine::ball_volume(12, 6));
+    show_reply(engine::ball_volume(13, 6));
+    show_reply(engine::covering_floor(4, 1));
+    show_reply(engine::covering_floor(4, 13));
     text(b"sum");
     number(checksum(&cells));
     text(b"\n");

@@ -6,49 +6,44 @@ use Rattle.formula.specs.Formula.{Formula}
 use Rattle.formula.specs.Sheet.{Result, accepted, parse}
 use Rattle.code.specs.Code.{code}
 use Rattle.code.specs.Operations.{coded?}
-use Rattle.search.specs.Run.{Plan, answerOf}
-use Rattle.search.specs.Run as Search
+use Rattle.tree.specs.Explore.{Outcome}
+use Rattle.tree.specs.Budget.{Answer, clear, none, spent, answer}
+use Rattle.search.specs.Run.{Plan, searchOf, run}
 use Rattle.engine.specs.declared.Reply.{Reply}
 
--- ---- answers
+-- ---- decisions
 
--- A verdict and what belongs to it: the assignment and the calls needed; the calls needed; the budget; number and place.
+-- What the engine's search of a formula by a plan comes to.
+unfoldable pub outcome : Plan → Formula → Outcome
+outcome p f = run (searchOf code p f)
+
+-- A verdict and what belongs to it: the answer of the search within its budget, or the number and the place of a refusal.
 pub data Verdict : Type 0 where
-  clear : (assignment calls : ℕ) → Verdict
-  none : (calls : ℕ) → Verdict
-  spent : (budget : ℕ) → Verdict
+  answered : Answer → Verdict
   refused : (number place : ℕ) → Verdict
 
 -- the verdict, with the batch number beside it
-pub record Answer : Type 0 where
+pub record Decision : Type 0 where
   pub batch : ℕ
   pub verdict : Verdict
 
 -- a refusal has number and place, and everything else is 0
-unfoldable pub refusal : ℕ → ℕ → Answer
+unfoldable pub refusal : ℕ → ℕ → Decision
 refusal number place = record { batch = 0; verdict = refused number place }
-
--- what a search within its budget comes to
-unfoldable pub verdictOf : Search.Answer → Verdict
-verdictOf (Search.clear m c) = clear m c
-verdictOf (Search.Answer.none c) = none c
-verdictOf (Search.spent c) = spent c
-
--- ---- run
 
 abbrev pub BAD-PLAN : ℕ
 BAD-PLAN = 8
 
 -- a formula that was read is searched, and a refusal of the sheet passed on
-unfoldable pub decided : Plan → ℕ → Result Formula → Answer
-decided p A (accepted f) = record { batch = f .batch; verdict = verdictOf (answerOf code p f A) }
+unfoldable pub decided : Plan → ℕ → Result Formula → Decision
+decided p A (accepted f) = record { batch = f .batch; verdict = answered (answer A (outcome p f)) }
 decided p A (Result.refused number place) = refusal number place
 
--- The answer to a plan, a budget and the bytes of a sheet: the plan's refusal goes first, then the sheet's.
-unfoldable pub answerTo : Plan → ℕ → List ℕ → Answer
-answerTo p A s = cond (coded? (p .size) (p .radius)) (decided p A (parse s)) (refusal BAD-PLAN 0)
+-- The decision on a plan, a budget and the bytes of a sheet: the plan's refusal goes first, then the sheet's.
+unfoldable pub decision : Plan → ℕ → List ℕ → Decision
+decision p A s = cond (coded? (p .size) (p .radius)) (decided p A (parse s)) (refusal BAD-PLAN 0)
 
--- ---- the numbers of an answer, as a host in C has them
+-- ---- the numbers of a decision, as a host in C has them
 
 abbrev pub REFUSED : ℕ
 REFUSED = 0
@@ -62,24 +57,25 @@ NONE = 2
 abbrev pub SPENT : ℕ
 SPENT = 3
 
--- a verdict of the search
-abbrev pub counts : ℕ → ℕ → ℕ → ℕ → Reply
+-- the reply of a search, with the number of its verdict
+abbrev pub counts : (verdict batch marks calls : ℕ) → Reply
 counts verdict batch marks calls = record { verdict = verdict; batch = batch; marks = marks; calls = calls; number = 0; place = 0 }
 
--- a refusal
-abbrev pub declines : ℕ → ℕ → ℕ → Reply
-declines batch number place = record { verdict = REFUSED; batch = batch; marks = 0; calls = 0; number = number; place = place }
+-- the reply of a refusal
+abbrev pub declines : (number place : ℕ) → Reply
+declines number place = record { verdict = REFUSED; batch = 0; marks = 0; calls = 0; number = number; place = place }
+
+-- the assignment of a reply, as a number
+unfoldable pub marksOf : Reply → ℕ
+marksOf r = r .marks
 
 -- A verdict without an assignment has marks 0.
 unfoldable pub numbersOf : ℕ → Verdict → Reply
-numbersOf batch (clear m c) = counts CLEAR batch m c
-numbersOf batch (none c) = counts NONE batch 0 c
-numbersOf batch (spent c) = counts SPENT batch 0 c
-numbersOf batch (refused number place) = declines batch number place
-
-unfoldable pub replyOf : Answer → Reply
-replyOf a = numbersOf (a .batch) (a .verdict)
+numbersOf batch (answered (clear m c)) = counts CLEAR batch m c
+numbersOf batch (answered (none c)) = counts NONE batch 0 c
+numbersOf batch (answered (spent c)) = counts SPENT batch 0 c
+numbersOf batch (refused number place) = declines number place
 
 -- What `run` gives.
 unfoldable pub replyTo : Plan → ℕ → List ℕ → Reply
-replyTo p A s = replyOf (answerTo p A s)
+replyTo p A s = let d = decision p A s in numbersOf (d .batch) (d .verdict)

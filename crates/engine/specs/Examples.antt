@@ -16,7 +16,9 @@ use Rattle.code.specs.Code as Code
 use Rattle.code.specs.Volume as Volume
 use Rattle.code.specs.Operations as Operations
 use Rattle.code.specs.Operations.{codeAnswer, codeTable, volumeAnswer, floorAnswer}
-use Rattle.search.specs.Explore as Explore
+use Rattle.tree.specs.Explore as Explore
+use Rattle.tree.specs.Budget as Budget
+use Rattle.search.specs.Ball as Ball
 use Rattle.search.specs.Run as Search
 use Rattle.engine.specs.declared.Reply.{Reply}
 use Rattle.engine.specs.Answers as Answers
@@ -51,7 +53,7 @@ wordsIn (Refused r) table = []
 
 -- The library's answer, in numbers: of a code its words.
 pub ask : Question → List ℕ
-ask (run-of size radius budget f) = numbers (replyTo (record { size = size; radius = radius }) budget (encode f))
+ask (run-of size radius budget f) = numbers (replyTo (Search.plan size radius) budget (encode f))
 ask (code-of t s) = let table : List ℕ = replicate (2 ^ t) 0 in wordsIn (codeAnswer t s table) (codeTable t s table)
 ask (volume-of t s) = answerNumbers (volumeAnswer t s)
 ask (floor-of t s) = answerNumbers (floorAnswer t s)
@@ -106,16 +108,19 @@ examples =
 pub examples-hold : map (λ r. ask (r .question)) examples ≡ map (λ r. r .answer) examples
 unfolding examples ask numbers answerNumbers wordsIn
     some every keep first span bit toggle distance
-    Formula.place Formula.met Formula.true? Formula.allTrue Formula.names Formula.literalWord Formula.literalOf
-    Sheet.wordOf Sheet.words Sheet.kind Sheet.value Sheet._>>=_ Sheet._>>_ Sheet.refuse-when Sheet.take-word Sheet.take-number Sheet.take-literal
+    Formula.bitOf Formula.met Formula.true? Formula.allTrue Formula.names Formula.literalWord Formula.literalOf
+    Sheet.wordOf Sheet.words Sheet.kind Sheet.value Sheet._>>=_ Sheet._>>_ Sheet.refuse-when
+    Sheet.take-word Sheet.take-number Sheet.take-literal
     Sheet.take-literals Sheet.take-clause Sheet.take-clauses Sheet.take-header Sheet.take-formula Sheet.parse
     Sheet.word Sheet.literalWords Sheet.clauseWords Sheet.formulaWords Sheet.bytes encode
-    Code.wordsOf Code.near Code.gain Code.beats Code.best Code.chosen Code.without Code.greedy Code.code Volume.choose Volume.volume Volume.floor
+    Code.wordsOf Code.near Code.gain Code.beats Code.best Code.chosen Code.without Code.greedy Code.code
+    Volume.choose Volume.volume Volume.floor
     Operations.coded? Operations.fits? codeAnswer Operations.written codeTable Operations.measured? volumeAnswer floorAnswer
-    Explore.calls Explore.plus Explore.after Explore.try Explore.call Explore.explore Explore.reading Explore.isFlipped Explore.flip Explore.isTried
-    Explore.tried Explore.branch Explore.firstFalse Explore.firstFalseRule Explore.ballTree Explore.ballSearch
-    Search.blockOf Search.shortBlock Search.blocks Search.summedRadius Search.centreCount Search.centreAt Search.searchOf Search.ball Search.run
-    Search.whole Search.answer Search.answerOf
-    Answers.refusal Answers.verdictOf Answers.decided Answers.answerTo Answers.numbersOf Answers.replyOf replyTo
+    Explore.calls Explore.plus Explore.after Explore.try Explore.call Explore.explore
+    Ball.reading Ball.isFlipped Ball.flip Ball.isTried Ball.tried Ball.branch Ball.select Ball.skip Ball.rule Ball.ballTree Ball.ballSearch
+    Search.blockOf Search.shortBlock Search.blocks Search.summedRadius Search.centreCount Search.centreAt
+    Search.searchOf Search.ball Search.run
+    Budget.whole Budget.answer
+    Answers.outcome Answers.refusal Answers.decided Answers.decision Answers.numbersOf replyTo
     lib.Count.ones lib.Count.onesIn
 examples-hold = refl

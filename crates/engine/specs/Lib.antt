@@ -1,5 +1,10 @@
 -- The definitions and laws of the crate engine.
 pub mod Answers
-pub mod Machine
+pub mod Replies
+pub mod Right
 pub mod Demands
+pub mod AlikeAnswers
 pub mod Examples
+pub mod Machine
+pub mod MachineLaws
+pub mod DemandLaws

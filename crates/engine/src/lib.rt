@@ -1,13 +1,21 @@
 // The engine: a sheet decided by a plan within a budget, for Rattle and for C.
+mod exports;
+
+pub use exports::AlikeReply;
+pub use exports::NumberReply;
+pub use exports::alike;
+pub use exports::ball_volume;
+pub use exports::covering_code;
+pub use exports::covering_floor;
 use formula::Reading;
-use search::Found;
+use tree::Found;
 use words::Assignment;
 use words::Refusal;
 ghost use mathlib.Core.Path.{_≡_};
-ghost use lib.ListN.{length};
-ghost use Rattle.search.specs.Machine.{answerIn};
-ghost use Rattle.engine.specs.Answers.{verdictOf, answerTo, counts, replyOf, replyTo};
-ghost use Rattle.engine.specs.Machine.{plan, verdictIn, answerRead};
+ghost use Rattle.tree.specs.Machine.{answerIn};
+ghost use Rattle.search.specs.Run.{plan};
+ghost use Rattle.engine.specs.Answers.{answered, decision, counts, declines, numbersOf, replyTo};
+ghost use Rattle.engine.specs.Machine.{verdictIn, decisionIn};
 
 // The numbers of the verdicts.
 pub const REFUSED: u32 = 0;
@@ -27,12 +35,12 @@ pub enum Verdict {
 }
 
 // The verdict, with the batch number beside it.
-pub struct Answer {
+pub struct Decision {
     pub batch: u32,
     pub verdict: Verdict,
 }
 
-// An answer as numbers, for a host in C (include/engine.h).
+// A decision as numbers, for a host in C (include/engine.h).
 #[repr(C)]
 pub struct Reply {
     pub verdict: u32,
@@ -43,15 +51,8 @@ pub struct Reply {
     pub place: u32,
 }
 
-// Room for the clauses of the longest sheet.
-fn cells() -> [u32; 9216]
-    ensures { λ r. ⌜ length r ≡ 9216 ⌝ }
-{
-    [0; 9216]
-}
-
 fn settled(found: Found) -> Verdict
-    ensures { λ r. ⌜ verdictIn r ≡ verdictOf (answerIn found) ⌝ }
+    ensures { λ r. ⌜ verdictIn r ≡ answered (answerIn found) ⌝ }
 {
     match found {
         Found::Clear(model, calls) => Verdict::Clear(model, calls),
@@ -60,37 +61,37 @@ fn settled(found: Found) -> Verdict
     }
 }
 
-// The answer to a plan (block length and radius), a budget of calls and the bytes of a sheet.
-pub fn decide(size: u32, radius: u32, budget: u32, sheet: &[u8]) -> Answer
-    ensures { λ r. ⌜ answerRead r ≡ answerTo (plan size radius) budget (now (sheet .entry)) ⌝ }
+// The decision on a plan (block length and radius), a budget of calls and the bytes of a sheet.
+pub fn decide(size: u32, radius: u32, budget: u32, sheet: &[u8]) -> Decision
+    ensures { λ r. ⌜ decisionIn r ≡ decision (plan size radius) budget (now (sheet .entry)) ⌝ }
 {
     if !code::coded(size, radius) {
         let refusal = Refusal {
             number: code::BAD_PLAN,
             place: 0,
         };
-        return Answer {
+        return Decision {
             batch: 0,
             verdict: Verdict::Refused(refusal),
         };
     }
-    let mut table = cells();
+    let mut table = formula::empty_table();
     match formula::read_sheet(sheet, &mut table) {
         Reading::Accepted { batch, n, clauses } => {
             let found = search::run(&table, n, clauses, size, radius, budget);
-            Answer {
+            Decision {
                 batch,
                 verdict: settled(found),
             }
         }
-        Reading::Refused(refusal) => Answer {
+        Reading::Refused(refusal) => Decision {
             batch: 0,
             verdict: Verdict::Refused(refusal),
         },
     }
 }
 
-// The numbers of a verdict of the search.
+// The reply of a search, with the number of its verdict.
 fn counted(verdict: u32, batch: u32, marks: u32, calls: u32) -> Reply
     ensures { λ r. ⌜ r ≡ counts verdict batch marks calls ⌝ }
 {
@@ -104,23 +105,30 @@ fn counted(verdict: u32, batch: u32, marks: u32, calls: u32) -> Reply
     }
 }
 
-fn numbers(answer: Answer) -> Reply
-    ensures { λ r. ⌜ r ≡ replyOf (answerRead answer) ⌝ }
+// The reply of a refusal: everything else is 0.
+pub fn declined(number: u32, place: u32) -> Reply
+    ensures { λ r. ⌜ r ≡ declines number place ⌝ }
 {
-    let batch = answer.batch;
-    let verdict = answer.verdict;
+    Reply {
+        verdict: REFUSED,
+        batch: 0,
+        marks: 0,
+        calls: 0,
+        number,
+        place,
+    }
+}
+
+fn numbers(decision: Decision) -> Reply
+    ensures { λ r. ⌜ r ≡ numbersOf (decisionIn decision .batch) (decisionIn decision .verdict) ⌝ }
+{
+    let batch = decision.batch;
+    let verdict = decision.verdict;
     match verdict {
         Verdict::Clear(model, calls) => counted(CLEAR, batch, model.word, calls),
         Verdict::None(calls) => counted(NONE, batch, 0, calls),
         Verdict::Spent(calls) => counted(SPENT, batch, 0, calls),
-        Verdict::Refused(refusal) => Reply {
-            verdict: REFUSED,
-            batch,
-            marks: 0,
-            calls: 0,
-            number: refusal.number,
-            place: refusal.place,
-        },
+        Verdict::Refused(refusal) => declined(refusal.number, refusal.place),
     }
 }
 

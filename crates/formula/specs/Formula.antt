@@ -6,8 +6,7 @@ use Prim.Native.Nat.{ℕ, _+_, _-_, _*_, _/_, _%_, _^_, _≤_, _<_}
 use lib.Dec.{eqb}
 use lib.ListN.{length}
 use Rattle.words.specs.Lists.{In, some, every}
-use Rattle.words.specs.Bits.{bit}
-use Rattle.words.specs.Value.{width}
+use Rattle.words.specs.Bits.{bit, width}
 
 -- A literal (the paper's wish): a variable (coupon), 1 to n, asked to be 1 (pay) or 0 (hold).
 pub record Literal : Type 0 where
@@ -25,12 +24,12 @@ pub record Formula : Type 0 where
   pub clauses : List Clause
 
 -- the bit of an assignment (marks) that belongs to a literal's variable
-unfoldable pub place : Literal → ℕ
-place l = l .variable - 1
+unfoldable pub bitOf : Literal → ℕ
+bitOf l = l .variable - 1
 
 -- A positive literal is met by 1, a negative one by 0.
 unfoldable pub met : ℕ → Literal → Bool
-met m l = Bool·beq (bit m (place l)) (l .positive)
+met m l = Bool·beq (bit m (bitOf l)) (l .positive)
 
 -- A clause is true if a literal in it is met: the empty clause never is.
 unfoldable pub true? : ℕ → Clause → Bool
@@ -40,7 +39,18 @@ true? m c = some (met m) c
 unfoldable pub allTrue : ℕ → List Clause → Bool
 allTrue m cs = every (true? m) cs
 
+-- Some assignment of n variables is a model: a number below 2^n, whose bits from n up are 0.
+unfoldable pub Satisfiable : ℕ → List Clause → Type 0
+Satisfiable n cs = (m : ℕ) × (m < 2 ^ n) × (allTrue m cs ≡ true)
+
 -- ---- which formulas a sheet can hold
+
+-- a clause has at most 8 literals, and a sheet at most 1,024 clauses
+abbrev pub lengthLimit : ℕ
+lengthLimit = 8
+
+abbrev pub clauseLimit : ℕ
+clauseLimit = 1024
 
 -- a literal of the clause names the variable v
 unfoldable pub names : ℕ → Clause → Bool
@@ -53,7 +63,7 @@ once (l ∷ c) = not (names (l .variable) c) && once c
 
 -- A clause of at most 8 literals over the variables 1 to n, none of them twice.
 pub record WellFormedClause (n : ℕ) (c : Clause) : Type 0 where
-  pub short : length c ≤ 8
+  pub short : length c ≤ lengthLimit
   pub known : (l : Literal) → In l c → (1 ≤ l .variable) × (l .variable ≤ n)
   pub once : once c ≡ true
 
@@ -61,7 +71,7 @@ pub record WellFormedClause (n : ℕ) (c : Clause) : Type 0 where
 pub record WellFormed (f : Formula) : Type 0 where
   pub batch : f .batch < 2 ^ 32
   pub variables : f .n ≤ width
-  pub clauses : length (f .clauses) ≤ 1024
+  pub clauses : length (f .clauses) ≤ clauseLimit
   pub each : (c : Clause) → In c (f .clauses) → WellFormedClause (f .n) c
 
 -- ---- the word that stands for a literal on the sheet

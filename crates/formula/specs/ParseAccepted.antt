@@ -7,8 +7,9 @@ use native.Mathlib.Omega.{arith}
 use lib.Dec.{eqb}
 use lib.ListN.{length, getD, drop}
 use borrow.Author.Tests.{ltb-false, eqb-false, eqb-true, not-false}
-use Rattle.words.specs.Lists.{In, some, some-in, and-both}
-use Rattle.formula.specs.Formula.{Literal, Clause, Formula, names, once, WellFormedClause, WellFormed, literalWord, literalOf}
+use Rattle.words.specs.Lists.{In, some}
+use Rattle.words.specs.ListLaws.{some-in, and-both}
+use Rattle.formula.specs.Formula.{Literal, Clause, Formula, names, once, lengthLimit, clauseLimit, WellFormedClause, WellFormed, literalWord, literalOf}
 use Rattle.formula.specs.Sheet.{accepted, words, word, take-word, take-number, take-literal, take-literals, take-clause, take-clauses, take-header, take-formula, parse, literalWords, clauseWords, formulaWords, bytes, encode, CLAUSE-LENGTH, LITERAL}
 use Rattle.formula.specs.SheetLaws.{clash, known, bind-accepted, when-accepted, bytes-words, length-words, take-word-accepted, word-kind-value, names-snoc, neither, differ-sym, all-nil, all-cons}
 
@@ -38,7 +39,8 @@ pub record LiteralRead (n : ℕ) (before : Clause) (w : ℕ) (l : Literal) : Typ
   pub known : (1 ≤ l .variable) × (l .variable ≤ n)
   pub new : names (l .variable) before ≡ false
 
-pub take-literal-accepted : (n : ℕ) (before : Clause) (p w : ℕ) (l : Literal) → take-literal n before p w ≡ accepted l → LiteralRead n before w l
+pub take-literal-accepted : (n : ℕ) (before : Clause) (p w : ℕ) (l : Literal) → take-literal n before p w ≡ accepted l →
+    LiteralRead n before w l
 unfolding take-literal literalOf
 take-literal-accepted n before p w l e =
     bind-accepted _ _ e (λ v q r. when-accepted _ _ _ _ r (λ t r′. when-accepted _ _ _ _ r′ (λ t′ s.
@@ -79,23 +81,25 @@ unfolding literalWords once
 literals-more n c before w ws l ls a b =
     let apart : (m : Literal) → In m ls → (names (m .variable) before ≡ false) × (eqb (l .variable) (m .variable) ≡ false) =
     λ m i. neither _ _ (rw names-snoc at (b .new m i)) in
+    let differ = not-named (l .variable) ls (λ m i. differ-sym (l .variable) (m .variable) (apart m i .1)) in
     record {
       count = ap suc (b .count);
       words = λ i. a .word i ∷ b .words i;
       known = all-cons (λ m. (1 ≤ m .variable) × (m .variable ≤ n)) (a .known) (b .known);
       new = all-cons (λ m. names (m .variable) before ≡ false) (a .new) (λ m i. apart m i .0);
-      once = and-both (not (names (l .variable) ls)) _ (ap not (not-named (l .variable) ls (λ m i. differ-sym (l .variable) (m .variable) (apart m i .1)))) (b .once);
+      once = and-both (not (names (l .variable) ls)) _ (ap not differ) (b .once);
     }
 
-pub take-literals-accepted : (n c : ℕ) (before : Clause) (p : ℕ) (ws : List ℕ) (ls : Clause) → take-literals n c before p ws ≡ accepted ls →
-    LiteralsRead n c before ws ls
+pub take-literals-accepted : (n c : ℕ) (before : Clause) (p : ℕ) (ws : List ℕ) (ls : Clause) →
+    take-literals n c before p ws ≡ accepted ls → LiteralsRead n c before ws ls
 unfolding take-literals
 take-literals-accepted n zero before p ws ls e = subst (LiteralsRead n 0 before ws) (cc) (literals-none n before ws)
 take-literals-accepted n (suc c) before p [] ls e = clash e refl
 take-literals-accepted n (suc c) before p (w ∷ ws) ls e =
     bind-accepted _ _ e (λ l q r. bind-accepted _ _ r (λ ms q′ r′.
-    subst (LiteralsRead n (suc c) before (w ∷ ws)) (cc)
-    (literals-more n c before w ws l ms (take-literal-accepted n before p w l q) (take-literals-accepted n c (before ++ (l ∷ [])) (p + 1) ws ms q′))))
+    let read = take-literal-accepted n before p w l q in
+    let rest = take-literals-accepted n c (before ++ (l ∷ [])) (p + 1) ws ms q′ in
+    subst (LiteralsRead n (suc c) before (w ∷ ws)) (cc) (literals-more n c before w ws l ms read rest)))
 
 -- what an accepted clause is
 pub record ClauseRead (n w : ℕ) (ws : List ℕ) (c : Clause) : Type 0 where
@@ -107,7 +111,7 @@ pub take-clause-accepted : (n p w : ℕ) (ws : List ℕ) (c : Clause) → take-c
 unfolding take-clause
 take-clause-accepted n p w ws c e =
     bind-accepted _ _ e (λ k q r.
-    let a = take-number-accepted CLAUSE-LENGTH 8 p w k q in
+    let a = take-number-accepted CLAUSE-LENGTH lengthLimit p w k q in
     let b = take-literals-accepted n k [] (p + 1) ws c r in
     record {
       word = a .0 ∙ ap (word CLAUSE-LENGTH) (sym (b .count));
@@ -126,17 +130,20 @@ clauses-none : (n room : ℕ) → ClausesRead n room [] []
 unfolding clauseWords
 clauses-none n room = record { words = refl; fits = zero-le; each = all-nil _ }
 
-pub take-clauses-accepted : (n room p : ℕ) (ws : List ℕ) (cs : List Clause) → take-clauses n room p ws ≡ accepted cs → ClausesRead n room ws cs
+pub take-clauses-accepted : (n room p : ℕ) (ws : List ℕ) (cs : List Clause) → take-clauses n room p ws ≡ accepted cs →
+    ClausesRead n room ws cs
 unfolding take-clauses clauseWords
 take-clauses-accepted n zero p [] cs e = subst (ClausesRead n 0 []) (cc) (clauses-none n 0)
 take-clauses-accepted n (suc room) p [] cs e = subst (ClausesRead n (suc room) []) (cc) (clauses-none n (suc room))
 take-clauses-accepted n zero p (w ∷ ws) cs e = bind-accepted _ _ e (λ v q r. clash r refl)
 take-clauses-accepted n (suc room) p (w ∷ ws) cs e =
     bind-accepted _ _ e (λ c q r. bind-accepted _ _ r (λ ds q′ r′.
-    subst (ClausesRead n (suc room) (w ∷ ws)) (cc)
-    (clauses-more c ds (take-clause-accepted n p w ws c q) (take-clauses-accepted n room (p + 1 + length c) (drop (length c) ws) ds q′))))
+    let read = take-clause-accepted n p w ws c q in
+    let rest = take-clauses-accepted n room (p + 1 + length c) (drop (length c) ws) ds q′ in
+    subst (ClausesRead n (suc room) (w ∷ ws)) (cc) (clauses-more c ds read rest)))
   where
-    clauses-more : (c : Clause) (ds : List Clause) → ClauseRead n w ws c → ClausesRead n room (drop (length c) ws) ds → ClausesRead n (suc room) (w ∷ ws) (c ∷ ds)
+    clauses-more : (c : Clause) (ds : List Clause) → ClauseRead n w ws c → ClausesRead n room (drop (length c) ws) ds →
+        ClausesRead n (suc room) (w ∷ ws) (c ∷ ds)
     clauses-more c ds a b =
         record {
           words = ap₂ _∷_ (sym (a .word)) (ap (λ (r : List ℕ). literalWords c ++ r) (b .words) ∙ sym (a .words));
@@ -148,9 +155,9 @@ take-clauses-accepted n (suc room) p (w ∷ ws) cs e =
 
 -- the first three words and the rest
 pub three : (ws : List ℕ) → 3 ≤ length ws → getD ws 0 0 ∷ getD ws 1 0 ∷ getD ws 2 0 ∷ drop 3 ws ≡ ws
-three [] h = let z : ⊥ = omega arith in absurd z
-three (a ∷ []) h = let z : ⊥ = omega arith in absurd z
-three (a ∷ b ∷ []) h = let z : ⊥ = omega arith in absurd z
+three [] h = absurd (omega arith)
+three (a ∷ []) h = absurd (omega arith)
+three (a ∷ b ∷ []) h = absurd (omega arith)
 three (a ∷ b ∷ c ∷ ws) h = refl
 
 -- what an accepted header is
@@ -177,7 +184,8 @@ take-header-accepted ws f e =
     }))))
 
 -- a header with its clauses
-pub header-clauses : (f : Formula) (cs : List Clause) → f .clauses ≡ [] → formulaWords (record { batch = f .batch; n = f .n; clauses = cs }) ≡ formulaWords f ++ clauseWords cs
+pub header-clauses : (f : Formula) (cs : List Clause) → f .clauses ≡ [] →
+    formulaWords (record { batch = f .batch; n = f .n; clauses = cs }) ≡ formulaWords f ++ clauseWords cs
 unfolding formulaWords clauseWords
 header-clauses f cs none = rw none
 
@@ -190,7 +198,7 @@ unfolding take-formula
 take-formula-accepted ws f e =
     bind-accepted _ _ e (λ h q r. bind-accepted _ _ r (λ cs q′ r′.
     let a = take-header-accepted ws h q in
-    let b = take-clauses-accepted (h .n) 1024 3 (drop 3 ws) cs q′ in
+    let b = take-clauses-accepted (h .n) clauseLimit 3 (drop 3 ws) cs q′ in
     let same : _≡_ {A = Formula} (record { batch = h .batch; n = h .n; clauses = cs }) f = cc in
     subst (FormulaRead ws) same
     (record {
@@ -198,16 +206,21 @@ take-formula-accepted ws f e =
       formed = record { batch = a .formed .batch; variables = a .formed .variables; clauses = b .fits; each = b .each };
     })))
 
-pub parse-well-formed : (s : List ℕ) (f : Formula) → parse s ≡ accepted f → WellFormed f
+-- the length of an accepted sheet is in order, and its words are the formula's
+sheet-read : (s : List ℕ) (f : Formula) → parse s ≡ accepted f →
+    (length s % 4 ≡ 0) × (12 ≤ length s) × FormulaRead (words s) f
 unfolding parse
-parse-well-formed s f e =
-    when-accepted _ _ _ _ e (λ a e₁. when-accepted _ _ _ _ e₁ (λ b e₂. when-accepted _ _ _ _ e₂ (λ c e₃. take-formula-accepted (words s) f e₃ .formed)))
-
-pub parse-accepted : (s : List ℕ) (f : Formula) → ((b : ℕ) → In b s → b < 256) → parse s ≡ accepted f → (encode f ≡ s) × WellFormed f
-unfolding parse encode
-parse-accepted s f small e =
+sheet-read s f e =
     when-accepted _ _ _ _ e (λ a e₁. when-accepted _ _ _ _ e₁ (λ b e₂. when-accepted _ _ _ _ e₂ (λ c e₃.
-    let whole : length s % 4 ≡ 0 = eqb-true _ _ (not-false _ b) in
-    let read = take-formula-accepted (words s) f e₃ in
-    let back : formulaWords f ≡ words s = read .words (omega (arith, length-words s, ltb-false (length s) 12 c)) in
-    (ap bytes back ∙ bytes-words s whole small, read .formed))))
+    (eqb-true _ _ (not-false _ b), ltb-false (length s) 12 c, take-formula-accepted (words s) f e₃))))
+
+pub parse-well-formed : (s : List ℕ) (f : Formula) → parse s ≡ accepted f → WellFormed f
+parse-well-formed s f e = sheet-read s f e .2 .formed
+
+pub parse-accepted : (s : List ℕ) (f : Formula) → ((b : ℕ) → In b s → b < 256) → parse s ≡ accepted f →
+    (encode f ≡ s) × WellFormed f
+unfolding encode
+parse-accepted s f small e =
+    let (even, header, read) = sheet-read s f e in
+    let back : formulaWords f ≡ words s = read .words (omega (arith, length-words s)) in
+    (ap bytes back ∙ bytes-words s even small, read .formed)

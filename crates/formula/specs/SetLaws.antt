@@ -1,22 +1,28 @@
--- Laws of clauses as sets: what the tests mean by membership alone, and that standing in one another is an order.
+-- Laws of clauses as sets: what the tests mean by membership alone; that further clauses take models away and bring none;
+-- and that having the same clauses is an equivalence and keeps the models.
 use mathlib.Core.Path.{_≡_, refl, sym, ap, _∙_}
+use mathlib.Core.Logic.{_↔_}
 use mathlib.Core.Bool.{Bool, true, false, Bool·beq}
 use mathlib.Core.List.{List}
 use Prim.Native.Nat.{ℕ}
 use lib.Dec.{eqb}
 use borrow.Author.Tests.{eq-eqb, eqb-true}
-use Rattle.words.specs.Lists.{In, some, every-in, in-every, some-in, in-some, and-left, and-right, and-both}
-use Rattle.formula.specs.Formula.{Literal, Clause, allTrue, literalWord, literalOf}
+use Rattle.words.specs.Lists.{In, some}
+use Rattle.words.specs.ListLaws.{every-in, in-every, some-in, in-some, and-left, and-right, and-both, beq-true, both-ways}
+use Rattle.formula.specs.Formula.{Literal, Clause, met, true?, allTrue, literalWord, literalOf}
 use Rattle.formula.specs.ParseAccepted.{word-literal}
-use Rattle.formula.specs.Sets.{sameLiteral, within, sameSet, stands, sameLiteral-eq, within-in, stands-model}
-
--- two tests agree where each holds if the other does
-both-ways : (a b : Bool) → (a ≡ true → b ≡ true) → (b ≡ true → a ≡ true) → a ≡ b
-both-ways true b h g = sym (h refl)
-both-ways false true h g = g refl
-both-ways false false h g = refl
+use Rattle.formula.specs.Sets.{sameLiteral, within, sameSet, stands, sameClauses}
 
 -- ---- literals and clauses
+
+sameLiteral-eq : (a b : Literal) → sameLiteral a b ≡ true → a ≡ b
+unfolding sameLiteral
+sameLiteral-eq a b e =
+    let variables = eqb (a .variable) (b .variable) in
+    let signs = Bool·beq (a .positive) (b .positive) in
+    let p : a .variable ≡ b .variable = eqb-true _ _ (and-left variables signs e) in
+    let q : a .positive ≡ b .positive = beq-true _ _ (and-right variables signs e) in
+    λ i. record { variable = p i; positive = q i }
 
 beq-same : (a : Bool) → Bool·beq a a ≡ true
 beq-same true = refl
@@ -33,46 +39,90 @@ sameLiteral-words v w =
     (λ e. eq-eqb v w (sym (word-literal v) ∙ ap literalWord (sameLiteral-eq (literalOf v) (literalOf w) e) ∙ word-literal w))
     (λ e. rw (eqb-true v w e) (sameLiteral-same (literalOf w)))
 
-pub in-within : (c d : Clause) → ((l : Literal) → In l c → In l d) → within c d ≡ true
+-- A clause is within another if each literal of it stands there, and only then.
+within-means : (c d : Clause) → (within c d ≡ true) ↔ ((l : Literal) → In l c → In l d)
 unfolding within
-in-within c d h = in-every (λ l. some (sameLiteral l) d) c (λ l i. in-some (sameLiteral l) d l (h l i) (sameLiteral-same l))
+within-means c d = (
+  λ e l i.
+      let (k, j, s) = some-in (sameLiteral l) d (every-in (λ l′. some (sameLiteral l′) d) c e l i) in
+      rw (sameLiteral-eq l k s) j,
+  λ h. in-every (λ l. some (sameLiteral l) d) c (λ l i. in-some (sameLiteral l) d l (h l i) (sameLiteral-same l)),
+)
 
--- Two clauses are the same set if each literal of one stands in the other, and only then.
-pub in-sameSet : (c d : Clause) → ((l : Literal) → In l c → In l d) → ((l : Literal) → In l d → In l c) → sameSet c d ≡ true
+-- Two clauses are the same set if they have the same literals, and only then.
+pub sameSet-means : (c d : Clause) → (sameSet c d ≡ true) ↔ ((l : Literal) → In l c ↔ In l d)
 unfolding sameSet
-in-sameSet c d h g = and-both (within c d) (within d c) (in-within c d h) (in-within d c g)
+sameSet-means c d = (
+  λ e l. (within-means c d .0 (and-left (within c d) (within d c) e) l, within-means d c .0 (and-right (within c d) (within d c) e) l),
+  λ h. and-both (within c d) (within d c) (within-means c d .1 (λ l. h l .0)) (within-means d c .1 (λ l. h l .1)),
+)
 
-pub sameSet-in : (c d : Clause) → sameSet c d ≡ true → (l : Literal) → In l c → In l d
-unfolding sameSet
-sameSet-in c d e = within-in c d (and-left (within c d) (within d c) e)
+-- ---- one list of clauses standing in another
 
-pub sameSet-of : (c d : Clause) → sameSet c d ≡ true → (l : Literal) → In l d → In l c
-unfolding sameSet
-sameSet-of c d e = within-in d c (and-right (within c d) (within d c) e)
+-- Each clause of cs has the same literals as some clause of ds.
+abbrev pub SameIn : List Clause → List Clause → Type 0
+SameIn cs ds = (c : Clause) → In c cs → (d : Clause) × In d ds × ((l : Literal) → In l c ↔ In l d)
 
--- ---- lists of clauses
-
--- One list of clauses stands in another if each clause of it is the set of some clause there, and only then.
-pub in-stands : (cs ds : List Clause) → ((c : Clause) → In c cs → (d : Clause) × In d ds × (sameSet c d ≡ true)) → stands cs ds ≡ true
+-- One list of clauses stands in another if each clause of it has the same literals as some clause there, and only then.
+pub stands-means : (cs ds : List Clause) → (stands cs ds ≡ true) ↔ SameIn cs ds
 unfolding stands
-in-stands cs ds h = in-every (λ c. some (sameSet c) ds) cs (λ c i. let (d, j, s) = h c i in in-some (sameSet c) ds d j s)
+stands-means cs ds = (
+  λ e c i. let (d, j, s) = some-in (sameSet c) ds (every-in (λ c′. some (sameSet c′) ds) cs e c i) in (d, j, sameSet-means c d .0 s),
+  λ h.
+      in-every (λ c. some (sameSet c) ds) cs
+      (λ c i. let (d, j, s) = h c i in in-some (sameSet c) ds d j (sameSet-means c d .1 s)),
+)
 
-pub stands-in : (cs ds : List Clause) → stands cs ds ≡ true → (c : Clause) → In c cs → (d : Clause) × In d ds × (sameSet c d ≡ true)
-unfolding stands
-stands-in cs ds e c i = some-in (sameSet c) ds (every-in (λ c′. some (sameSet c′) ds) cs e c i)
+-- A model of ds is a model of every list of clauses that stands in ds.
+pub stands-model : (cs ds : List Clause) → stands cs ds ≡ true → (m : ℕ) → allTrue m ds ≡ true → allTrue m cs ≡ true
+unfolding allTrue true?
+stands-model cs ds e m model =
+    in-every (true? m) cs
+    (λ c i.
+    let (d, j, same) = stands-means cs ds .0 e c i in
+    let (l, k, h) = some-in (met m) d (every-in (true? m) ds model d j) in
+    in-some (met m) c l (same l .1 k) h)
 
--- Clauses stand wherever all of them are, in whatever order and however often.
-pub stands-all : (cs ds : List Clause) → ((c : Clause) → In c cs → In c ds) → stands cs ds ≡ true
-stands-all cs ds h = in-stands cs ds (λ c i. (c, h c i, in-sameSet c c (λ l j. j) (λ l j. j)))
+-- ---- the same clauses
 
-pub stands-trans : (bs cs ds : List Clause) → stands bs cs ≡ true → stands cs ds ≡ true → stands bs ds ≡ true
-stands-trans bs cs ds e f =
-    in-stands bs ds
-    (λ b i.
-    let (c, j, s) = stands-in bs cs e b i in
-    let (d, k, t) = stands-in cs ds f c j in
-    (d, k, in-sameSet b d (λ l m. sameSet-in c d t l (sameSet-in b c s l m)) (λ l m. sameSet-of b c s l (sameSet-of c d t l m))))
+pub sameClauses-stands : (cs ds : List Clause) → (sameClauses cs ds ≡ true) ↔ ((stands cs ds ≡ true) × (stands ds cs ≡ true))
+unfolding sameClauses
+sameClauses-stands cs ds = (
+  λ e. (and-left (stands cs ds) (stands ds cs) e, and-right (stands cs ds) (stands ds cs) e),
+  λ h. and-both (stands cs ds) (stands ds cs) (h .0) (h .1),
+)
 
--- Lists of clauses that stand in one another have the same models.
-pub stands-models : (cs ds : List Clause) → stands cs ds ≡ true → stands ds cs ≡ true → (m : ℕ) → allTrue m cs ≡ allTrue m ds
-stands-models cs ds e f m = both-ways (allTrue m cs) (allTrue m ds) (stands-model ds cs f m) (stands-model cs ds e m)
+pub sameClauses-means : (cs ds : List Clause) → (sameClauses cs ds ≡ true) ↔ (SameIn cs ds × SameIn ds cs)
+sameClauses-means cs ds = (
+  λ e. let h = sameClauses-stands cs ds .0 e in (stands-means cs ds .0 (h .0), stands-means ds cs .0 (h .1)),
+  λ h. sameClauses-stands cs ds .1 (stands-means cs ds .1 (h .0), stands-means ds cs .1 (h .1)),
+)
+
+-- Order and repetition do not count.
+pub sameClauses-order : (cs ds : List Clause) → ((c : Clause) → In c cs ↔ In c ds) → sameClauses cs ds ≡ true
+sameClauses-order cs ds h =
+    sameClauses-means cs ds .1 (λ c i. (c, h c .0 i, λ l. (λ j. j, λ j. j)), λ c i. (c, h c .1 i, λ l. (λ j. j, λ j. j)))
+
+pub sameClauses-refl : (cs : List Clause) → sameClauses cs cs ≡ true
+sameClauses-refl cs = sameClauses-order cs cs (λ c. (λ i. i, λ i. i))
+
+pub sameClauses-sym : (cs ds : List Clause) → sameClauses cs ds ≡ true → sameClauses ds cs ≡ true
+sameClauses-sym cs ds e = let h = sameClauses-stands cs ds .0 e in sameClauses-stands ds cs .1 (h .1, h .0)
+
+same-trans : (bs cs ds : List Clause) → SameIn bs cs → SameIn cs ds → SameIn bs ds
+same-trans bs cs ds h g b i =
+    let (c, j, s) = h b i in
+    let (d, k, t) = g c j in
+    (d, k, λ l. (λ m. t l .0 (s l .0 m), λ m. s l .1 (t l .1 m)))
+
+pub sameClauses-trans : (bs cs ds : List Clause) →
+    sameClauses bs cs ≡ true → sameClauses cs ds ≡ true → sameClauses bs ds ≡ true
+sameClauses-trans bs cs ds e f =
+    let h = sameClauses-means bs cs .0 e in
+    let g = sameClauses-means cs ds .0 f in
+    sameClauses-means bs ds .1 (same-trans bs cs ds (h .0) (g .0), same-trans ds cs bs (g .1) (h .1))
+
+pub sameClauses-models : (cs ds : List Clause) → sameClauses cs ds ≡ true → (m : ℕ) → allTrue m cs ≡ allTrue m ds
+sameClauses-models cs ds e m =
+    let h = sameClauses-stands cs ds .0 e in
+    both-ways (allTrue m cs) (allTrue m ds) (stands-model ds cs (h .1) m) (stands-model cs ds (h .0) m)

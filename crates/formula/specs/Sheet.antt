@@ -4,8 +4,8 @@ use mathlib.Core.List.{List, [], _∷_, _++_, map}
 use Prim.Native.Nat.{ℕ, zero, suc, _+_, _*_, _/_, _%_, _^_}
 use lib.Dec.{eqb, ltb}
 use lib.ListN.{length, getD, drop}
-use Rattle.words.specs.Value.{width}
-use Rattle.formula.specs.Formula.{Literal, Clause, Formula, names, literalWord, literalOf}
+use Rattle.words.specs.Bits.{width}
+use Rattle.formula.specs.Formula.{Literal, Clause, Formula, names, lengthLimit, clauseLimit, literalWord, literalOf}
 
 infixl 10 _>>=_
 infixl 10 _>>_
@@ -42,6 +42,19 @@ CLAUSE-LENGTH = 1
 
 abbrev pub LITERAL : ℕ
 LITERAL = 0
+
+-- ---- its limits
+
+-- a half of the batch number has 16 bits
+abbrev pub halfLimit : ℕ
+halfLimit = 65535
+
+-- The longest sheet has 9,219 words, its header's three and for each clause its length and its literals: 36,876 bytes.
+abbrev pub wordLimit : ℕ
+wordLimit = 3 + clauseLimit * (1 + lengthLimit)
+
+abbrev pub byteLimit : ℕ
+byteLimit = 4 * wordLimit
 
 -- ---- what a reading comes to
 
@@ -128,7 +141,7 @@ take-literals n (suc c) before place (w ∷ ws) = do
 -- a clause: one word with its length c, 0 to 8, and then c literals
 unfoldable pub take-clause : (n place w : ℕ) (ws : List ℕ) → Result Clause
 take-clause n place w ws = do
-  c ← take-number CLAUSE-LENGTH 8 place w
+  c ← take-number CLAUSE-LENGTH lengthLimit place w
   take-literals n c [] (place + 1) ws
 
 -- clauses to the end of the sheet, as many as there is room for
@@ -146,8 +159,8 @@ take-clauses n (suc room) place (w ∷ ws) = do
 -- words 0 and 1, the high and the low 16 bits of the batch number; word 2, the number n of variables; no clause yet
 unfoldable pub take-header : (ws : List ℕ) → Result Formula
 take-header ws = do
-  high ← take-number BATCH-HALF 65535 0 (getD ws 0 0)
-  low ← take-number BATCH-HALF 65535 1 (getD ws 1 0)
+  high ← take-number BATCH-HALF halfLimit 0 (getD ws 0 0)
+  low ← take-number BATCH-HALF halfLimit 1 (getD ws 1 0)
   n ← take-number VARIABLES width 2 (getD ws 2 0)
   accepted (record { batch = 65536 * high + low; n = n; clauses = [] })
 
@@ -155,15 +168,15 @@ take-header ws = do
 unfoldable pub take-formula : (ws : List ℕ) → Result Formula
 take-formula ws = do
   f ← take-header ws
-  cs ← take-clauses (f .n) 1024 3 (drop 3 ws)
+  cs ← take-clauses (f .n) clauseLimit 3 (drop 3 ws)
   accepted (record { batch = f .batch; n = f .n; clauses = cs })
 
 -- ---- the whole sheet
 
--- Its length goes first; the longest sheet has 3 + 9 * 1,024 = 9,219 words, 36,876 bytes.
+-- Its length goes first.
 unfoldable pub parse : (s : List ℕ) → Result Formula
 parse s = do
-  refuse-when (ltb 36876 (length s)) ABOVE-LIMIT 9219
+  refuse-when (ltb byteLimit (length s)) ABOVE-LIMIT wordLimit
   refuse-when (not (eqb (length s % 4) 0)) RAGGED-LENGTH 0
   refuse-when (ltb (length s) 12) SHORT-HEADER 0
   take-formula (words s)

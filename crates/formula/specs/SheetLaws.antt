@@ -1,7 +1,7 @@
 -- Laws of the sheet's small parts: results in sequence, bytes and words, kind and value, one word read.
 use mathlib.Core.Path.{_≡_, refl, sym, ap, _∙_, subst}
 use mathlib.Core.Logic.{⊎-elim}
-use mathlib.Core.Bool.{Bool, true, false, _||_, or-false, or-assoc, false≢true}
+use mathlib.Core.Bool.{Bool, true, false, _||_, false≢true}
 use mathlib.Core.List.{List, [], _∷_, _++_, List·Memᴰ·head, List·Memᴰ·tail, List·Memᴰ·cases-cons, List·Memᴰ·append-cases, List·Memᴰ·not-nil}
 use Prim.Native.Nat.{ℕ, zero, suc, _+_, _-_, _*_, _/_, _%_, _^_, _≤_, _<_}
 use native.Mathlib.Nat.{div-div-eq-div-mul, le-refl}
@@ -10,15 +10,16 @@ use lib.Dec.{eqb, ltb}
 use lib.ListN.{length, getD, take, drop, length-drop}
 use lib.Seq.{take-all, drop-drop}
 use borrow.Author.Tests.{ltb-false, eqb-true, eqb-false, ne-eqb, eq-eqb, not-false}
-use Rattle.words.specs.Lists.{In, some}
+use Rattle.words.specs.Lists.{In}
+use Rattle.words.specs.ListLaws.{apart, some-last}
 use Rattle.formula.specs.Formula.{Literal, Clause, names}
-use Rattle.formula.specs.Sheet.{Result, accepted, refused, _>>=_, _>>_, refuse-when, wordOf, words, kind, value, take-word, word, bytes}
+use Rattle.formula.specs.Sheet.{Result, accepted, refused, _>>=_, _>>_, refuse-when, wordOf, words, kind, value, take-word, word, bytes, WRONG-KIND}
 
 -- ---- results in sequence, taken apart
 
 -- no result is both
 pub clash : {A P : Type 0} {t : Result A} {a : A} {x y : ℕ} → t ≡ accepted a → t ≡ refused x y → P
-clash p q = let z : _≡_ {A = ℕ} 0 1 = cc in absurd (omega arith)
+clash p q = apart (cc)
 
 module _ {A B : Type 0} where
   pub bind-accepted : {P : Type 0} (m : Result A) (f : A → Result B) {b : B} → (m >>= f) ≡ accepted b →
@@ -46,6 +47,18 @@ module _ {B : Type 0} where
   when-refused true n p r e j k = j refl (cc) (cc)
   when-refused false n p r e j k = k refl e
 
+-- ---- results in sequence, put together
+
+pub bind-pure : {A : Type 0} (m : Result A) → (m >>= accepted) ≡ m
+unfolding _>>=_
+bind-pure (accepted a) = refl
+bind-pure (refused x y) = refl
+
+pub bind-assoc : {A B C : Type 0} (m : Result A) (f : A → Result B) (g : B → Result C) → (m >>= f >>= g) ≡ (m >>= λ a. f a >>= g)
+unfolding _>>=_
+bind-assoc (accepted a) f g = refl
+bind-assoc (refused x y) f g = refl
+
 -- ---- a fact of every element
 
 module _ {A : Type 0} (P : A → Type 0) where
@@ -55,7 +68,8 @@ module _ {A : Type 0} (P : A → Type 0) where
   pub all-cons : {x : A} {xs : List A} → P x → ((y : A) → In y xs → P y) → (y : A) → In y (x ∷ xs) → P y
   all-cons p h y i = ⊎-elim (λ e. subst P (sym e) p) (h y) (List·Memᴰ·cases-cons i)
 
-  pub all-append : (xs : List A) {ys : List A} → ((y : A) → In y xs → P y) → ((y : A) → In y ys → P y) → (y : A) → In y (xs ++ ys) → P y
+  pub all-append : (xs : List A) {ys : List A} → ((y : A) → In y xs → P y) → ((y : A) → In y ys → P y) →
+      (y : A) → In y (xs ++ ys) → P y
   all-append xs h k y i = ⊎-elim (h y) (k y) (List·Memᴰ·append-cases xs i)
 
 -- ---- bytes and words
@@ -96,22 +110,27 @@ bytes-word a b c d ha hb hc hd =
 pub bytes-words : (s : List ℕ) → length s % 4 ≡ 0 → ((b : ℕ) → In b s → b < 256) → bytes (words s) ≡ s
 unfolding words bytes
 bytes-words [] e h = refl
-bytes-words (a ∷ []) e h = let z : ⊥ = omega arith in absurd z
-bytes-words (a ∷ b ∷ []) e h = let z : ⊥ = omega arith in absurd z
-bytes-words (a ∷ b ∷ c ∷ []) e h = let z : ⊥ = omega arith in absurd z
+bytes-words (a ∷ []) e h = absurd (omega arith)
+bytes-words (a ∷ b ∷ []) e h = absurd (omega arith)
+bytes-words (a ∷ b ∷ c ∷ []) e h = absurd (omega arith)
 bytes-words (a ∷ b ∷ c ∷ d ∷ s) e h =
-    let q = bytes-word a b c d (h a (List·Memᴰ·head refl)) (h b (List·Memᴰ·tail (List·Memᴰ·head refl)))
-    (h c (List·Memᴰ·tail (List·Memᴰ·tail (List·Memᴰ·head refl)))) (h d (List·Memᴰ·tail (List·Memᴰ·tail (List·Memᴰ·tail (List·Memᴰ·head refl))))) in
-    rw (q .0, q .1, q .2, q .3, bytes-words s (omega arith) (λ x i. h x (List·Memᴰ·tail (List·Memᴰ·tail (List·Memᴰ·tail (List·Memᴰ·tail i))))))
+    let small-a = h a (List·Memᴰ·head refl) in
+    let small-b = h b (List·Memᴰ·tail (List·Memᴰ·head refl)) in
+    let small-c = h c (List·Memᴰ·tail (List·Memᴰ·tail (List·Memᴰ·head refl))) in
+    let small-d = h d (List·Memᴰ·tail (List·Memᴰ·tail (List·Memᴰ·tail (List·Memᴰ·head refl)))) in
+    let q = bytes-word a b c d small-a small-b small-c small-d in
+    let small : (x : ℕ) → In x s → x < 256 =
+    λ x i. h x (List·Memᴰ·tail (List·Memᴰ·tail (List·Memᴰ·tail (List·Memᴰ·tail i)))) in
+    rw (q .0, q .1, q .2, q .3, bytes-words s (omega arith) small)
 
 -- the word at an index, by its bytes
 pub words-at : (s : List ℕ) (i : ℕ) → i < length (words s) →
     getD (words s) i 0 ≡ wordOf (getD s (4 * i) 0) (getD s (4 * i + 1) 0) (getD s (4 * i + 2) 0) (getD s (4 * i + 3) 0)
 unfolding words
-words-at [] i h = let z : ⊥ = omega arith in absurd z
-words-at (a ∷ []) i h = let z : ⊥ = omega arith in absurd z
-words-at (a ∷ b ∷ []) i h = let z : ⊥ = omega arith in absurd z
-words-at (a ∷ b ∷ c ∷ []) i h = let z : ⊥ = omega arith in absurd z
+words-at [] i h = absurd (omega arith)
+words-at (a ∷ []) i h = absurd (omega arith)
+words-at (a ∷ b ∷ []) i h = absurd (omega arith)
+words-at (a ∷ b ∷ c ∷ []) i h = absurd (omega arith)
 words-at (a ∷ b ∷ c ∷ d ∷ s) zero h = refl
 words-at (a ∷ b ∷ c ∷ d ∷ s) (suc i) h =
     let first : 4 * suc i ≡ suc (suc (suc (suc (4 * i)))) = omega arith in
@@ -131,7 +150,16 @@ words-tail (a ∷ b ∷ c ∷ d ∷ s) = refl
 
 pub words-part : (s : List ℕ) → words (take (length s - 12) (drop 12 s)) ≡ drop 3 (words s)
 words-part s =
-    rw (take-all (length s - 12) (drop 12 s) (rw length-drop (le-refl _)), ← drop-drop 4 8 s, words-tail, ← drop-drop 4 4 s, words-tail, words-tail, drop-drop 1 1 (words s), drop-drop 1 2 (words s))
+    rw (
+      take-all (length s - 12) (drop 12 s) (rw length-drop (le-refl _)),
+      ← drop-drop 4 8 s,
+      words-tail,
+      ← drop-drop 4 4 s,
+      words-tail,
+      words-tail,
+      drop-drop 1 1 (words s),
+      drop-drop 1 2 (words s),
+    )
 
 -- ---- kind and value
 
@@ -149,9 +177,17 @@ word-kind-value w = omega arith
 
 -- ---- one word
 
-pub take-word-word : (k p v : ℕ) → v < 2 ^ 30 → take-word k p (word k v) ≡ accepted v
+-- a word of the kind due there, and one of another kind
+pub take-word-right : (k p w : ℕ) → kind w ≡ k → take-word k p w ≡ accepted (value w)
 unfolding take-word _>>_ refuse-when
-take-word-word k p v h = rw (kind-word k v h, value-word k v h, eq-eqb k k refl)
+take-word-right k p w e = rw (eq-eqb (kind w) k e)
+
+pub take-word-wrong : (k p w : ℕ) → (kind w ≡ k → ⊥) → take-word k p w ≡ refused WRONG-KIND p
+unfolding take-word _>>_ refuse-when
+take-word-wrong k p w e = rw (ne-eqb (kind w) k e)
+
+pub take-word-word : (k p v : ℕ) → v < 2 ^ 30 → take-word k p (word k v) ≡ accepted v
+take-word-word k p v h = take-word-right k p (word k v) (kind-word k v h) ∙ ap accepted (value-word k v h)
 
 pub take-word-accepted : (k p w v : ℕ) → take-word k p w ≡ accepted v → (kind w ≡ k) × (value w ≡ v)
 unfolding take-word
@@ -171,6 +207,5 @@ differ-sym a b e = ne-eqb b a (λ h. eqb-false a b e (sym h))
 -- ---- the variables of a clause
 
 pub names-snoc : (v : ℕ) (c : Clause) (l : Literal) → names v (c ++ (l ∷ [])) ≡ (names v c || eqb (l .variable) v)
-unfolding names some
-names-snoc v [] l = or-false (eqb (l .variable) v)
-names-snoc v (m ∷ c) l = ap (λ (b : Bool). eqb (m .variable) v || b) (names-snoc v c l) ∙ sym (or-assoc (eqb (m .variable) v) (names v c) (eqb (l .variable) v))
+unfolding names
+names-snoc v c l = some-last (λ m. eqb (m .variable) v) c l

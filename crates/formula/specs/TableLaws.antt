@@ -1,16 +1,18 @@
--- Laws of the table: a row that was written, the rows before it, and the clauses that the table then holds.
+-- Laws of the table: a row that was written, the rows before it, the clauses that the table then holds, clause by clause and
+-- literal by literal.
 use mathlib.Core.Path.{_≡_, refl, sym, ap, _∙_}
 use mathlib.Core.Logic.{⊎-elim}
 use mathlib.Core.List.{List, [], _∷_, _++_, map, map-append, List·Memᴰ·head, List·Memᴰ·tail, List·Memᴰ·cases-cons, List·Memᴰ·not-nil}
 use Prim.Native.Nat.{ℕ, zero, suc, _+_, _*_, _≤_, _<_}
-use native.Mathlib.Nat.{zero-add, suc-add, add-zero, add-suc}
+use native.Mathlib.Nat.{zero-add, suc-add, add-zero, add-suc, le-trans}
 use native.Mathlib.Numerals.{add-one}
 use native.Mathlib.Omega.{arith}
-use lib.ListN.{length, getD, take, drop, length-map}
-use lib.Seq.{take-take, take-nil, getD-take}
-use Rattle.words.specs.Lists.{In, span, in-span, length-span}
-use Rattle.formula.specs.Formula.{Clause, literalOf}
-use Rattle.formula.specs.Table.{lengthAt, clauseAt, held}
+use lib.ListN.{length, getD, take, drop, length-map, length-drop, List·getD-map, drop-of-length-le}
+use lib.Seq.{take-take, take-nil, getD-take, length-take-le, drop-cons, getD-drop}
+use Rattle.words.specs.Lists.{In, span}
+use Rattle.words.specs.ListLaws.{in-span, length-span, getD-span}
+use Rattle.formula.specs.Formula.{Literal, Clause, literalOf, lengthLimit, WellFormedClause}
+use Rattle.formula.specs.Machine.{rowCells, lengthAt, literalAt, clauseAt, held, Table, Row, Rows}
 
 -- ---- parts of a list
 
@@ -31,14 +33,16 @@ cell-kept b i l l₀ e h = sym (getD-take b l i 0 h) ∙ ap (λ (r : List ℕ). 
 
 -- ---- rows
 
-module _ (k : ℕ) (cells cells₀ : List ℕ) (kept : take (9 * k) cells ≡ take (9 * k) cells₀) where
+module _ (k : ℕ) (cells cells₀ : List ℕ) (kept : take (rowCells * k) cells ≡ take (rowCells * k) cells₀) where
   pub length-kept : (i : ℕ) → i < k → lengthAt cells i ≡ lengthAt cells₀ i
   unfolding lengthAt
-  length-kept i h = cell-kept (9 * k) (9 * i) cells cells₀ kept (omega arith)
+  length-kept i h = cell-kept (rowCells * k) (rowCells * i) cells cells₀ kept (omega arith)
 
-  clause-kept : (i : ℕ) → i < k → lengthAt cells₀ i ≤ 8 → clauseAt cells i ≡ clauseAt cells₀ i
+  clause-kept : (i : ℕ) → i < k → lengthAt cells₀ i ≤ lengthLimit → clauseAt cells i ≡ clauseAt cells₀ i
   unfolding clauseAt
-  clause-kept i h short = rw (length-kept i h) (ap (map literalOf) (part-kept (9 * k) (lengthAt cells₀ i) (9 * i + 1) cells cells₀ kept (omega arith)))
+  clause-kept i h short =
+      let part = part-kept (rowCells * k) (lengthAt cells₀ i) (rowCells * i + 1) cells cells₀ kept (omega arith) in
+      rw (length-kept i h) (ap (map literalOf) part)
 
 -- ---- the clauses held
 
@@ -47,13 +51,16 @@ unfolding span
 span-snoc i zero = rw add-zero
 span-snoc i (suc n) = ap (λ (r : List ℕ). i ∷ r) (span-snoc (suc i) n ∙ rw (suc-add, add-suc))
 
-map-span : {A : Type 0} (f g : ℕ → A) (i n : ℕ) → ((j : ℕ) → j < i + n → f j ≡ g j) → map f (span i n) ≡ map g (span i n)
+map-span : {A : Type 0} (f g : ℕ → A) (i n : ℕ) → ((j : ℕ) → j < i + n → f j ≡ g j) →
+    map f (span i n) ≡ map g (span i n)
 unfolding span
 map-span f g i zero h = refl
 map-span f g i (suc n) h = rw (h i (omega arith), map-span f g (suc i) n (λ j l. h j (omega arith)))
 
 -- one row more
-pub held-more : (k : ℕ) (cells cells₀ : List ℕ) (c : Clause) → take (9 * k) cells ≡ take (9 * k) cells₀ → ((i : ℕ) → i < k → lengthAt cells₀ i ≤ 8) →
+pub held-more : (k : ℕ) (cells cells₀ : List ℕ) (c : Clause) →
+    take (rowCells * k) cells ≡ take (rowCells * k) cells₀ →
+    ((i : ℕ) → i < k → lengthAt cells₀ i ≤ lengthLimit) →
     clauseAt cells k ≡ c → held (k + 1) cells ≡ held k cells₀ ++ (c ∷ [])
 unfolding held
 held-more k cells cells₀ c kept short new =
@@ -72,8 +79,78 @@ length-held k cells = length-map (span 0 k) (clauseAt cells) ∙ length-span 0 k
 
 map-in : {A : Type 0} (f : ℕ → A) (xs : List ℕ) (x : ℕ) → In x xs → In (f x) (map f xs)
 map-in f [] x i = absurd (List·Memᴰ·not-nil i)
-map-in f (y ∷ xs) x i = ⊎-elim (λ e. List·Memᴰ·head (ap f e)) (λ j. List·Memᴰ·tail (map-in f xs x j)) (List·Memᴰ·cases-cons i)
+map-in f (y ∷ xs) x i =
+    ⊎-elim (λ e. List·Memᴰ·head (ap f e)) (λ j. List·Memᴰ·tail (map-in f xs x j)) (List·Memᴰ·cases-cons i)
 
 pub held-in : (k : ℕ) (cells : List ℕ) (i : ℕ) → i < k → In (clauseAt cells i) (held k cells)
 unfolding held
 held-in k cells i h = map-in (clauseAt cells) (span 0 k) i (in-span 0 k i (omega arith) (omega arith))
+
+-- ---- clause by clause
+
+module _ (k : ℕ) (cells : List ℕ) where
+  pub held-cons : (i : ℕ) → i < k → drop i (held k cells) ≡ clauseAt cells i ∷ drop (suc i) (held k cells)
+  unfolding held
+  held-cons i h =
+      let at : getD (span 0 k) i 0 ≡ i = getD-span 0 k i 0 h ∙ zero-add i in
+      let here = List·getD-map (clauseAt cells) (span 0 k) i 0 ∙ ap (clauseAt cells) at in
+      drop-cons (held k cells) i (clauseAt cells 0) (rw (length-held k cells) h)
+      ∙ ap (λ (c : Clause). c ∷ drop (suc i) (held k cells)) here
+
+  pub held-end : (i : ℕ) → k ≤ i → drop i (held k cells) ≡ []
+  held-end i h = drop-of-length-le (held k cells) {i = i} (rw (length-held k cells) h)
+
+-- ---- rows that can be read
+
+pub table-rows : {n k : ℕ} {cells : List ℕ} → Table n k cells → Rows k cells
+table-rows t = record { size = t .size; room = t .room; short = t .short }
+
+pub rows-row : {k : ℕ} {cells : List ℕ} → Rows k cells → (i : ℕ) → i < k → Row cells i
+rows-row r i h = record { size = r .size; inside = omega (arith, r .room); short = r .short i h }
+
+pub table-row : {n k : ℕ} {cells : List ℕ} → Table n k cells → (i : ℕ) → i < k → Row cells i
+table-row t = rows-row (table-rows t)
+
+-- ---- a clause, literal by literal
+
+in-drop : {A : Type 0} (j : ℕ) (xs : List A) (x : A) → In x (drop j xs) → In x xs
+in-drop zero xs x i = i
+in-drop (suc j) [] x i = i
+in-drop (suc j) (y ∷ xs) x i = List·Memᴰ·tail (in-drop j xs x i)
+
+module _ {cells : List ℕ} {i : ℕ} (row : Row cells i) where
+  row-length : length (clauseAt cells i) ≡ lengthAt cells i
+  unfolding clauseAt
+  row-length =
+      length-map (take (lengthAt cells i) (drop (rowCells * i + 1) cells)) literalOf
+      ∙ length-take-le (lengthAt cells i) (drop (rowCells * i + 1) cells) (rw length-drop (omega arith))
+
+  pub row-cons : (j : ℕ) → j < lengthAt cells i →
+      drop j (clauseAt cells i) ≡ literalOf (literalAt cells i j) ∷ drop (suc j) (clauseAt cells i)
+  unfolding clauseAt literalAt
+  row-cons j h =
+      let own = take (lengthAt cells i) (drop (rowCells * i + 1) cells) in
+      let here : getD own j 0 ≡ literalAt cells i j = getD-take (lengthAt cells i) _ j 0 h ∙ getD-drop (rowCells * i + 1) cells j 0 in
+      drop-cons (clauseAt cells i) j (literalOf 0) (rw row-length h)
+      ∙ ap (λ (l : Literal). l ∷ drop (suc j) (clauseAt cells i)) (List·getD-map literalOf own j 0 ∙ ap literalOf here)
+
+  pub row-end : (j : ℕ) → lengthAt cells i ≤ j → drop j (clauseAt cells i) ≡ []
+  row-end j h = drop-of-length-le (clauseAt cells i) {i = j} (rw row-length h)
+
+  pub row-in : (j : ℕ) → j < lengthAt cells i → In (literalOf (literalAt cells i j)) (clauseAt cells i)
+  row-in j h = in-drop j (clauseAt cells i) _ (rw (row-cons j h) (List·Memᴰ·head refl))
+
+-- a literal's cell is the word of a variable, 1 to n
+pub clause-known : (n k : ℕ) (cells : List ℕ) → Table n k cells → (i : ℕ) → i < k → (j : ℕ) → j < lengthAt cells i →
+    (2 ≤ literalAt cells i j) × (literalAt cells i j < 2 * n + 2)
+unfolding literalOf
+clause-known n k cells table i inside j h =
+    let v = table .each i inside .known (literalOf (literalAt cells i j)) (row-in (table-row table i inside) j h) in
+    (omega arith, omega arith)
+
+-- a table over n variables is one over more
+pub table-wider : (n m k : ℕ) (cells : List ℕ) → n ≤ m → Table n k cells → Table m k cells
+table-wider n m k cells l t = record { size = t .size; room = t .room; short = t .short; each = λ i h. wider (t .each i h) }
+  where
+    wider : {c : Clause} → WellFormedClause n c → WellFormedClause m c
+    wider f = record { short = f .short; known = λ x j. (f .known x j .0, le-trans (f .known x j .1) l); once = f .once }

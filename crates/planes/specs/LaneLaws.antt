@@ -2,34 +2,18 @@
 use mathlib.Core.Path.{_≡_, refl, sym, ap, _∙_}
 use mathlib.Core.Bool.{Bool, true, false, not}
 use Prim.Native.Nat.{ℕ, zero, suc, _-_, _*_, _/_, _%_, _^_, _≤_, _<_, suc-le-suc}
-use native.Mathlib.Nat.{mod-lt, not-suc-le-zero, le-of-suc-le-suc, div-eq-of-lt, pow-suc, one-mul, sub-zero}
+use native.Mathlib.Nat.{not-suc-le-zero, le-of-suc-le-suc, div-eq-of-lt, pow-suc, one-mul, sub-zero}
 use native.Mathlib.Omega.{arith}
 use lib.Dec.{eqb, leb, lit<}
 use lib.Count.{trailingZeros, under}
 use lib.Pow.{pow-pos, pow-mono, pow-lt, shl-exact}
-use borrow.Author.Tests.{eq-eqb, ne-eqb, eqb-true, eqb-false, le-leb, lt-leb, leb-true, leb-false}
-use Rattle.words.specs.Bits.{bit, toggle}
-use Rattle.words.specs.BitLaws.{bit-zero, bit-suc, bit-low, bit-toggle-same, bit-toggle-other}
+use borrow.Author.Tests.{le-leb, lt-leb, leb-true, leb-false}
+use Rattle.words.specs.Bits.{bit}
+use Rattle.words.specs.BitLaws.{by-parity, bit-zero, bit-suc, bit-low}
+use Rattle.planes.specs.Machine.{lanes}
 pub use Rattle.words.specs.BitLaws.{bit-xor, bit-and, bit-or}
 
 -- ---- tests of numbers
-
--- a remainder by 2 is 0 or 1
-pub by-parity : (P : ℕ → Type 0) (x : ℕ) → (x % 2 ≡ 0 → P 0) → (x % 2 ≡ 1 → P 1) → P (x % 2)
-by-parity P x even odd = go (x % 2) refl (mod-lt x (lit< tt))
-  where
-    go : (d : ℕ) → x % 2 ≡ d → d < 2 → P d
-    go zero e l = even e
-    go (suc zero) e l = odd e
-    go (suc (suc d)) e l = absurd (not-suc-le-zero (le-of-suc-le-suc (le-of-suc-le-suc l)))
-
--- tests of facts that follow from each other
-pub same-test : (a b c d : ℕ) → (a ≡ b → c ≡ d) → (c ≡ d → a ≡ b) → eqb a b ≡ eqb c d
-same-test a b c d f g = go (eqb a b) refl
-  where
-    go : (t : Bool) → eqb a b ≡ t → t ≡ eqb c d
-    go true e = sym (eq-eqb c d (f (eqb-true a b e)))
-    go false e = sym (ne-eqb c d (λ q. eqb-false a b e (g q)))
 
 pub same-order : (a b c d : ℕ) → (a ≤ b → c ≤ d) → (b < a → d < c) → leb a b ≡ leb c d
 same-order a b c d f g = go (leb a b) refl
@@ -54,21 +38,12 @@ bit-not (suc k) x (suc v) h l =
 
 -- ---- 1 shifted
 
-pub one-shl : (s : ℕ) → s < 64 → 1 * 2 ^ s % 2 ^ 64 ≡ 2 ^ s
-one-shl s h = shl-exact {a = 1} 1 s 64 (lit< tt) (omega arith) ∙ one-mul (2 ^ s)
-
--- one bit
-pub bit-power : (v u : ℕ) → bit (2 ^ v) u ≡ eqb u v
-unfolding toggle
-bit-power v u = go (eqb u v) refl
-  where
-    go : (b : Bool) → eqb u v ≡ b → bit (2 ^ v) u ≡ b
-    go true e = ap (bit (2 ^ v)) (eqb-true u v e) ∙ bit-toggle-same 0 v ∙ ap not (bit-zero v)
-    go false e = bit-toggle-other 0 v u (λ q. eqb-false u v e (sym q)) ∙ bit-zero u
+pub one-shl : (s : ℕ) → s < lanes → 1 * 2 ^ s % 2 ^ lanes ≡ 2 ^ s
+one-shl s h = shl-exact {a = 1} 1 s lanes (lit< tt) (omega arith) ∙ one-mul (2 ^ s)
 
 -- all bits from s on
-pub bit-from : (s j : ℕ) → s < 64 → j < 64 → bit (2 ^ 64 - 1 - (2 ^ s - 1)) j ≡ leb s j
-bit-from s j h l = bit-not 64 (2 ^ s - 1) j (omega (arith, pow-lt h, pow-pos s)) l ∙ go (leb s j) refl
+pub bit-from : (s j : ℕ) → s < lanes → j < lanes → bit (2 ^ lanes - 1 - (2 ^ s - 1)) j ≡ leb s j
+bit-from s j h l = bit-not lanes (2 ^ s - 1) j (omega (arith, pow-lt h, pow-pos s)) l ∙ go (leb s j) refl
   where
     high : (x : ℕ) → x < 2 ^ j → bit x j ≡ false
     high x below = unfold bit in rw (div-eq-of-lt below)
@@ -76,7 +51,8 @@ bit-from s j h l = bit-not 64 (2 ^ s - 1) j (omega (arith, pow-lt h, pow-pos s))
     go : (b : Bool) → leb s j ≡ b → not (bit (2 ^ s - 1) j) ≡ b
     go true e = ap not (high (2 ^ s - 1) (omega (arith, pow-pos s, pow-mono (leb-true s j e))))
     go false e =
-        ap not (ap (λ (x : ℕ). bit x j) (sym (sub-zero (2 ^ s - 1))) ∙ bit-not s 0 j (pow-pos s) (leb-false s j e) ∙ ap not (bit-zero j))
+        let less : bit (2 ^ s - 1) j ≡ bit (2 ^ s - 1 - 0) j = ap (λ (x : ℕ). bit x j) (sym (sub-zero (2 ^ s - 1))) in
+        ap not (less ∙ bit-not s 0 j (pow-pos s) (leb-false s j e) ∙ ap not (bit-zero j))
 
 -- ---- the lowest bit that is set
 

@@ -1,9 +1,7 @@
--- The definitions and laws of the crate planes: counts of met literals, one lane of four bit planes for each clause.
-pub mod Planes
-pub mod Counts
+-- The definitions and laws of the crate planes.
+pub mod Machine
 pub mod LaneLaws
 pub mod PlaneLaws
-pub mod CountLaws
-pub mod TableLaws
 pub mod OccurLaws
+pub mod CountsLaws
 pub mod StartLaws

@@ -11,16 +11,17 @@ use lib.Count.{trailingZeros, trailing-le}
 use borrow.Author.Tests.{eq-eqb, ne-eqb, eqb-true, ltb-true, ltb-false}
 use borrow.Author.Count.{below-more}
 use Rattle.words.specs.Bits.{bit}
-use Rattle.words.specs.BitLaws.{bit-zero}
+use Rattle.words.specs.BitLaws.{bit-zero, digit, same-test}
 use Rattle.planes.specs.declared.Planes.{Planes}
-use Rattle.planes.specs.Planes.{digit, number, countIn, planesAt, countAt}
-use Rattle.planes.specs.LaneLaws.{same-test, trailing-below, trailing-at}
+use Rattle.planes.specs.Machine.{lanes, rowWords, planeCells, number, countIn, planesAt, countAt}
+use Rattle.planes.specs.LaneLaws.{trailing-below, trailing-at}
 
 -- ---- one more or one less
 
 -- One digit: where c is set, the digit a changes, up or (where d is set) down, and what is left to do goes to the next digit.
 digit-moves : (a c d : Bool) →
-    digit (xor a c) + digit (c && d) + 2 * digit ((xor a d && c) && not d) ≡ digit a + digit (c && not d) + 2 * digit ((xor a d && c) && d)
+    digit (xor a c) + digit (c && d) + 2 * digit ((xor a d && c) && not d)
+    ≡ digit a + digit (c && not d) + 2 * digit ((xor a d && c) && d)
 unfolding xor
 digit-moves true true true = refl
 digit-moves true true false = refl
@@ -57,10 +58,21 @@ module _ (a b c e u d : Bool) where
   abbrev change3 : Bool
   change3 = xor c d && change2
 
-  pub number-moves : (n : ℕ) → n < 16 → n + digit d ≡ number a b c e + digit u → number (xor a change0) (xor b change1) (xor c change2) (xor e change3) ≡ n
+  pub number-moves : (n : ℕ) → n < 16 → n + digit d ≡ number a b c e + digit u →
+      number (xor a change0) (xor b change1) (xor c change2) (xor e change3) ≡ n
   number-moves n l h =
-      omega
-      (arith, digit-moves a change0 d, digit-moves b change1 d, digit-moves c change2 d, digit-moves e change3 d, change-moves u d, digit-le (xor a change0), digit-le (xor b change1), digit-le (xor c change2), digit-le (xor e change3))
+      omega (
+        arith,
+        change-moves u d,
+        digit-moves a change0 d,
+        digit-moves b change1 d,
+        digit-moves c change2 d,
+        digit-moves e change3 d,
+        digit-le (xor a change0),
+        digit-le (xor b change1),
+        digit-le (xor c change2),
+        digit-le (xor e change3),
+      )
 
 -- a number is 0 where no digit is set
 pub zero-number : (a b c d : Bool) → not (((a || b) || c) || d) ≡ eqb (number a b c d) 0
@@ -93,79 +105,120 @@ module _ (xs : List ℕ) (w : ℕ) (p : Planes) where
   stored0 = set xs w (p .p0)
 
   abbrev stored1 : List ℕ
-  stored1 = set stored0 (w + 16) (p .p1)
+  stored1 = set stored0 (w + rowWords) (p .p1)
 
   abbrev stored2 : List ℕ
-  stored2 = set stored1 (w + 32) (p .p2)
+  stored2 = set stored1 (w + 2 * rowWords) (p .p2)
 
   abbrev stored : List ℕ
-  stored = set stored2 (w + 48) (p .p3)
+  stored = set stored2 (w + 3 * rowWords) (p .p3)
 
   pub stored-length : length stored ≡ length xs
   stored-length = simp length-set
 
   -- the places of other words
-  aside : (i : ℕ) → (i % 16 ≡ w % 16 → ⊥) → getD stored i 0 ≡ getD xs i 0
+  aside : (i : ℕ) → (i % rowWords ≡ w % rowWords → ⊥) → getD stored i 0 ≡ getD xs i 0
   aside i d =
-      getD-set-other stored2 (w + 48) i _ 0 (λ e. d (omega arith)) ∙ getD-set-other stored1 (w + 32) i _ 0 (λ e. d (omega arith))
-      ∙ getD-set-other stored0 (w + 16) i _ 0 (λ e. d (omega arith)) ∙ getD-set-other xs w i _ 0 (λ e. d (omega arith))
+      getD-set-other stored2 (w + 3 * rowWords) i _ 0 (λ e. d (omega arith))
+      ∙ getD-set-other stored1 (w + 2 * rowWords) i _ 0 (λ e. d (omega arith))
+      ∙ getD-set-other stored0 (w + rowWords) i _ 0 (λ e. d (omega arith))
+      ∙ getD-set-other xs w i _ 0 (λ e. d (omega arith))
 
-  module _ (l : w < 16) where
-    pub stored-other : (v : ℕ) → v < 16 → (v ≡ w → ⊥) → planesAt stored v ≡ planesAt xs v
+  module _ (l : w < rowWords) where
+    pub stored-other : (v : ℕ) → v < rowWords → (v ≡ w → ⊥) → planesAt stored v ≡ planesAt xs v
     unfolding planesAt
     stored-other v h d =
-        same-planes (aside v (λ e. d (omega arith))) (aside (v + 16) (λ e. d (omega arith))) (aside (v + 32) (λ e. d (omega arith)))
-        (aside (v + 48) (λ e. d (omega arith)))
+        same-planes
+        (aside v (λ e. d (omega arith)))
+        (aside (v + rowWords) (λ e. d (omega arith)))
+        (aside (v + 2 * rowWords) (λ e. d (omega arith)))
+        (aside (v + 3 * rowWords) (λ e. d (omega arith)))
 
-    pub stored-same : length xs ≡ 64 → planesAt stored w ≡ p
+    pub stored-same : length xs ≡ planeCells → planesAt stored w ≡ p
     unfolding planesAt
     stored-same h =
-        let room1 : w + 16 < length stored0 = simp length-set (omega arith) in
-        let room2 : w + 32 < length stored1 = simp length-set (omega arith) in
-        let room3 : w + 48 < length stored2 = simp length-set (omega arith) in
+        let room1 : w + rowWords < length stored0 = simp length-set (omega arith) in
+        let room2 : w + 2 * rowWords < length stored1 = simp length-set (omega arith) in
+        let room3 : w + 3 * rowWords < length stored2 = simp length-set (omega arith) in
         same-planes
-        (getD-set-other stored2 (w + 48) w _ 0 (λ e. omega arith) ∙ getD-set-other stored1 (w + 32) w _ 0 (λ e. omega arith)
-        ∙ getD-set-other stored0 (w + 16) w _ 0 (λ e. omega arith) ∙ getD-set-same xs w _ 0 (omega arith))
-        (getD-set-other stored2 (w + 48) (w + 16) _ 0 (λ e. omega arith) ∙ getD-set-other stored1 (w + 32) (w + 16) _ 0 (λ e. omega arith)
-        ∙ getD-set-same stored0 (w + 16) _ 0 room1)
-        (getD-set-other stored2 (w + 48) (w + 32) _ 0 (λ e. omega arith) ∙ getD-set-same stored1 (w + 32) _ 0 room2)
-        (getD-set-same stored2 (w + 48) _ 0 room3)
+        (past3 w (λ e. omega arith) ∙ past2 w (λ e. omega arith) ∙ past1 w (λ e. omega arith)
+        ∙ getD-set-same xs w _ 0 (omega arith))
+        (past3 (w + rowWords) (λ e. omega arith) ∙ past2 (w + rowWords) (λ e. omega arith)
+        ∙ getD-set-same stored0 (w + rowWords) _ 0 room1)
+        (past3 (w + 2 * rowWords) (λ e. omega arith) ∙ getD-set-same stored1 (w + 2 * rowWords) _ 0 room2)
+        (getD-set-same stored2 (w + 3 * rowWords) _ 0 room3)
+      where
+        past3 : (i : ℕ) → (i ≡ w + 3 * rowWords → ⊥) → getD stored i 0 ≡ getD stored2 i 0
+        past3 i d = getD-set-other stored2 (w + 3 * rowWords) i _ 0 d
+
+        past2 : (i : ℕ) → (i ≡ w + 2 * rowWords → ⊥) → getD stored2 i 0 ≡ getD stored1 i 0
+        past2 i d = getD-set-other stored1 (w + 2 * rowWords) i _ 0 d
+
+        past1 : (i : ℕ) → (i ≡ w + rowWords → ⊥) → getD stored1 i 0 ≡ getD stored0 i 0
+        past1 i d = getD-set-other stored0 (w + rowWords) i _ 0 d
 
 -- What holds of the words below w, and of the word that was stored at w, holds of the words up to w.
-pub words-more : (P : ℕ → Planes → Type 0) (xs ys : List ℕ) (w : ℕ) (p : Planes) → w < 16 → ((v : ℕ) → v < w → P v (planesAt xs v)) →
-    planesAt ys w ≡ p → ((v : ℕ) → v < 16 → (v ≡ w → ⊥) → planesAt ys v ≡ planesAt xs v) → P w p → (v : ℕ) → v < w + 1 → P v (planesAt ys v)
+pub words-more : (P : ℕ → Planes → Type 0) (xs ys : List ℕ) (w : ℕ) (p : Planes) → w < rowWords →
+    ((v : ℕ) → v < w → P v (planesAt xs v)) → planesAt ys w ≡ p →
+    ((v : ℕ) → v < rowWords → (v ≡ w → ⊥) → planesAt ys v ≡ planesAt xs v) → P w p →
+    (v : ℕ) → v < w + 1 → P v (planesAt ys v)
 words-more P xs ys w p l below same other here =
     below-more (λ v. P v (planesAt ys v)) w (λ v h. rw (other v (omega arith) (λ e. omega arith)) (below v h)) (rw same here)
+
+-- Of so many words the first w hold what P says of each: the invariant of a loop that stores word by word.
+pub record FirstWords (P : ℕ → Planes → Type 0) (all : ℕ) (xs : List ℕ) (w : ℕ) : Type 0 where
+  pub within : w ≤ all
+  pub size : length xs ≡ planeCells
+  pub each : (v : ℕ) → v < w → P v (planesAt xs v)
+
+pub words-none : {P : ℕ → Planes → Type 0} {all : ℕ} {xs : List ℕ} → length xs ≡ planeCells → FirstWords P all xs 0
+words-none size = record { within = omega arith; size = size; each = λ v l. absurd (omega arith) }
+
+-- with word w stored
+pub words-step : {P : ℕ → Planes → Type 0} {all w : ℕ} {xs ys : List ℕ} {p : Planes} →
+    FirstWords P all xs w → w < all → all ≤ rowWords →
+    length ys ≡ planeCells → planesAt ys w ≡ p →
+    ((v : ℕ) → v < rowWords → (v ≡ w → ⊥) → planesAt ys v ≡ planesAt xs v) →
+    P w p → FirstWords P all ys (w + 1)
+words-step {P} {all} {w} {xs} {ys} {p} f l r size same other here = record {
+  within = omega arith;
+  size = size;
+  each = words-more P xs ys w p (omega arith) (f .each) same other here;
+}
 
 -- ---- the lowest lane with count 0
 
 -- No lane before word w has count 0, and z has the lanes of word w that have.
-module _ (xs : List ℕ) (w z : ℕ) (before : (i : ℕ) → i < 64 * w → countAt xs i ≡ 0 → ⊥)
-    (zeros : (j : ℕ) → j < 64 → bit z j ≡ eqb (countIn (planesAt xs w) j) 0) where
-  lane-zero : (j : ℕ) → j < 64 → bit z j ≡ eqb (countAt xs (64 * w + j)) 0
+module _ (xs : List ℕ) (w z : ℕ) (before : (i : ℕ) → i < lanes * w → countAt xs i ≡ 0 → ⊥)
+    (zeros : (j : ℕ) → j < lanes → bit z j ≡ eqb (countIn (planesAt xs w) j) 0) where
+  lane-zero : (j : ℕ) → j < lanes → bit z j ≡ eqb (countAt xs (lanes * w + j)) 0
   unfolding countAt
   lane-zero j l =
-      let high : (64 * w + j) / 64 ≡ w = omega arith in
-      let low : (64 * w + j) % 64 ≡ j = omega arith in
+      let high : (lanes * w + j) / lanes ≡ w = omega arith in
+      let low : (lanes * w + j) % lanes ≡ j = omega arith in
       rw (high, low) (zeros j l)
 
   -- no lane of z below t is set
-  lanes-above : (t : ℕ) → t ≤ 64 → ((j : ℕ) → j < t → bit z j ≡ false) → (i : ℕ) → i < 64 * w + t → countAt xs i ≡ 0 → ⊥
-  lanes-above t r clear i l = go (ltb i (64 * w)) refl
+  lanes-above : (t : ℕ) → t ≤ lanes → ((j : ℕ) → j < t → bit z j ≡ false) →
+      (i : ℕ) → i < lanes * w + t → countAt xs i ≡ 0 → ⊥
+  lanes-above t r clear i l = go (ltb i (lanes * w)) refl
     where
-      go : (b : Bool) → ltb i (64 * w) ≡ b → countAt xs i ≡ 0 → ⊥
-      go true h q = before i (ltb-true i (64 * w) h) q
+      go : (b : Bool) → ltb i (lanes * w) ≡ b → countAt xs i ≡ 0 → ⊥
+      go true h q = before i (ltb-true i (lanes * w) h) q
       go false h q =
-          let past : 64 * w ≤ i = ltb-false i (64 * w) h in
-          let back : 64 * w + (i - 64 * w) ≡ i = omega arith in
-          true≢false (sym (lane-zero (i - 64 * w) (omega arith) ∙ rw back (eq-eqb (countAt xs i) 0 q)) ∙ clear (i - 64 * w) (omega arith))
+          let past : lanes * w ≤ i = ltb-false i (lanes * w) h in
+          let j = i - lanes * w in
+          let back : lanes * w + j ≡ i = omega arith in
+          let on : bit z j ≡ true = lane-zero j (omega arith) ∙ rw back (eq-eqb (countAt xs i) 0 q) in
+          true≢false (sym on ∙ clear j (omega arith))
 
-  pub zeros-none : z ≡ 0 → (i : ℕ) → i < 64 * (w + 1) → countAt xs i ≡ 0 → ⊥
-  zeros-none e i l = lanes-above 64 (omega arith) (λ j h. rw e (bit-zero j)) i (omega arith)
+  pub zeros-none : z ≡ 0 → (i : ℕ) → i < lanes * (w + 1) → countAt xs i ≡ 0 → ⊥
+  zeros-none e i l = lanes-above lanes (omega arith) (λ j h. rw e (bit-zero j)) i (omega arith)
 
-  pub zeros-lowest : (z ≡ 0 → ⊥) → z < 2 ^ 64 →
-      (trailingZeros 64 z < 64) × (countAt xs (64 * w + trailingZeros 64 z) ≡ 0)
-      × ((i : ℕ) → i < 64 * w + trailingZeros 64 z → countAt xs i ≡ 0 → ⊥)
+  pub zeros-lowest : (z ≡ 0 → ⊥) → z < 2 ^ lanes →
+      (trailingZeros lanes z < lanes) × (countAt xs (lanes * w + trailingZeros lanes z) ≡ 0)
+      × ((i : ℕ) → i < lanes * w + trailingZeros lanes z → countAt xs i ≡ 0 → ⊥)
   zeros-lowest some fits =
-      let t = trailing-at 64 z some fits in
-      (t .0, eqb-true _ 0 (sym (lane-zero (trailingZeros 64 z) (t .0)) ∙ t .1), lanes-above (trailingZeros 64 z) (trailing-le 64 z) (trailing-below 64 z))
+      let low = trailingZeros lanes z in
+      let t = trailing-at lanes z some fits in
+      (t .0, eqb-true _ 0 (sym (lane-zero low (t .0)) ∙ t .1), lanes-above low (trailing-le lanes z) (trailing-below lanes z))

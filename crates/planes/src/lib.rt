@@ -1,16 +1,23 @@
-// Counts of met literals of all clauses in bit planes, moved at each toggle of the assignment.
+// A number for each clause in bit planes, moved at each flip; what is counted is the caller's.
 ghost use mathlib.Core.Path.{_≡_};
-ghost use mathlib.Core.Bool.{false};
 ghost use mathlib.Core.List.{List};
-ghost use Prim.Native.Nat.{ℕ, _+_, _-_, _*_, _/_, _≤_, _<_};
+ghost use Prim.Native.Nat.{ℕ, _+_, _*_, _≤_, _<_};
 ghost use lib.Dec.{eqb, leb};
 ghost use lib.ListN.{length};
-ghost use Rattle.words.specs.Bits.{bit};
-ghost use Rattle.words.specs.Value.{width, value};
-ghost use Rattle.formula.specs.Table.{lengthAt, literalAt, clauseAt};
-ghost use Rattle.planes.specs.Planes.{countIn, planesAt, Moved, ZerosAfter};
-ghost use Rattle.planes.specs.Counts.{Readable, Marked, Occurs, Counts, metWord, Summed, Starts, Flips, Settles, FirstFalse};
-use words::Assignment;
+ghost use Rattle.words.specs.Bits.{bit, width};
+ghost use Rattle.formula.specs.Formula.{lengthLimit, Clause};
+ghost use Rattle.formula.specs.Machine.{cellCount, lengthAt, literalAt, clauseAt};
+ghost use Rattle.planes.specs.Machine.{lanes, rowWords, laneCount, rowCount, occurrenceCells, planeCells, countIn, planesAt, Counts, FirstZero, Readable, Occurs, Marked, Moved, ZerosAfter, Shifted, AboveZero, Summed, Starts};
+
+// The sizes of specs/Machine.antt: lanes of a word, words of a row, cells of the occurrence table
+// and of an array of planes.
+const LANES: usize = 64;
+
+const ROW: usize = 16;
+
+pub const OCCURRENCES: usize = (2 * words::WIDTH as usize + 2) * ROW;
+
+pub const PLANES: usize = 4 * ROW;
 
 // The counts of 64 clauses: plane p has binary digit p of each, one lane a clause.
 pub struct Planes {
@@ -39,7 +46,7 @@ impl Planes {
 
     // The lanes with count 0.
     pub fn zeros(self) -> u64
-        ensures { λ r. ⌜ ((j : ℕ) → j < 64 → bit r j ≡ eqb (countIn self j) 0) ⌝ }
+        ensures { λ r. ⌜ ((j : ℕ) → j < lanes → bit r j ≡ eqb (countIn self j) 0) ⌝ }
     {
         !(self.p0 | self.p1 | self.p2 | self.p3)
     }
@@ -59,58 +66,58 @@ impl Planes {
 }
 
 // The planes of word w.
-fn word_at(planes: &[u64; 64], w: usize) -> Planes
-    requires { ⌜ w < 16 ⌝ }
+fn word_at(planes: &[u64; PLANES], w: usize) -> Planes
+    requires { ⌜ w < rowWords ⌝ }
     ensures { λ r. ⌜ r ≡ planesAt (now (planes .entry)) w ⌝ }
 {
     Planes {
         p0: planes[w],
-        p1: planes[w + 16],
-        p2: planes[w + 32],
-        p3: planes[w + 48],
+        p1: planes[w + ROW],
+        p2: planes[w + 2 * ROW],
+        p3: planes[w + 3 * ROW],
     }
 }
 
-fn put_word(planes: &mut [u64; 64], w: usize, word: Planes)
-    requires { ⌜ w < 16 ⌝ }
-    requires { ⌜ length (now planes) ≡ 64 ⌝ }
-    ensures { λ r. ⌜ length (now (planes .exit)) ≡ 64 ⌝ }
+fn put_word(planes: &mut [u64; PLANES], w: usize, word: Planes)
+    requires { ⌜ w < rowWords ⌝ }
+    requires { ⌜ length (now planes) ≡ planeCells ⌝ }
+    ensures { λ r. ⌜ length (now (planes .exit)) ≡ planeCells ⌝ }
     ensures { λ r. ⌜ planesAt (now (planes .exit)) w ≡ word ⌝ }
-    ensures { λ r. ⌜ ((v : ℕ) → v < 16 → (v ≡ w → ⊥) → planesAt (now (planes .exit)) v ≡ planesAt (now (planes .entry)) v) ⌝ }
+    ensures { λ r. ⌜ ((v : ℕ) → v < rowWords → (v ≡ w → ⊥) →
+        planesAt (now (planes .exit)) v ≡ planesAt (now (planes .entry)) v) ⌝ }
 {
     planes[w] = word.p0;
-    planes[w + 16] = word.p1;
-    planes[w + 32] = word.p2;
-    planes[w + 48] = word.p3;
+    planes[w + ROW] = word.p1;
+    planes[w + 2 * ROW] = word.p2;
+    planes[w + 3 * ROW] = word.p3;
 }
 
 // The lanes of clause i in the rows of its literals.
-fn mark(cells: &[u32; 9216], i: usize, occ: &mut [u64; 1056])
-    requires { ⌜ i < 1024 ⌝ }
-    requires { ⌜ length (now cells) ≡ 9216 ⌝ }
-    requires { ⌜ length (now occ) ≡ 1056 ⌝ }
-    requires { ⌜ lengthAt (now cells) i ≤ 8 ⌝ }
-    requires { ⌜ ((j : ℕ) → j < lengthAt (now cells) i → literalAt (now cells) i j < 66) ⌝ }
-    ensures { λ r. ⌜ length (now (occ .exit)) ≡ 1056 ⌝ }
+fn mark(cells: &[u32; formula::CELLS], i: usize, occ: &mut [u64; OCCURRENCES])
+    requires { ⌜ i < laneCount ⌝ }
+    requires { ⌜ length (now cells) ≡ cellCount ⌝ }
+    requires { ⌜ length (now occ) ≡ occurrenceCells ⌝ }
+    requires { ⌜ lengthAt (now cells) i ≤ lengthLimit ⌝ }
+    requires { ⌜ ((j : ℕ) → j < lengthAt (now cells) i → literalAt (now cells) i j < rowCount) ⌝ }
+    ensures { λ r. ⌜ length (now (occ .exit)) ≡ occurrenceCells ⌝ }
     ensures { λ r. ⌜ Marked i (clauseAt (now (cells .entry)) i) (now (occ .entry)) (now (occ .exit)) ⌝ }
 {
-    let start = 9 * i;
-    let count = cells[start] as usize;
-    let own = 1u64 << (i % 64);
-    let mut j: usize = 0;
-    while j < count {
-        let at = cells[start + 1 + j] as usize * 16 + i / 64;
+    let length = formula::length_at(cells, i);
+    let own = 1u64 << (i % LANES);
+    let mut j: u32 = 0;
+    while j < length {
+        let at = formula::literal_at(cells, i, j) as usize * ROW + i / LANES;
         occ[at] = occ[at] | own;
         j += 1;
     }
 }
 
 // The occurrence table of k clauses.
-pub fn occurrences(cells: &[u32; 9216], k: usize) -> [u64; 1056]
+pub fn occurrences(cells: &[u32; formula::CELLS], k: usize) -> [u64; OCCURRENCES]
     requires { ⌜ Readable k (now cells) ⌝ }
     ensures { λ r. ⌜ Occurs k (now (cells .entry)) r ⌝ }
 {
-    let mut occ = [0u64; 1056];
+    let mut occ = [0u64; OCCURRENCES];
     let mut i: usize = 0;
     while i < k {
         mark(cells, i, &mut occ);
@@ -121,26 +128,22 @@ pub fn occurrences(cells: &[u32; 9216], k: usize) -> [u64; 1056]
 
 // The lanes of word w that no clause has.
 fn past(k: usize, w: usize) -> u64
-    requires { ⌜ 64 * w ≤ k ⌝ }
-    ensures { λ r. ⌜ ((j : ℕ) → j < 64 → bit r j ≡ leb k (64 * w + j)) ⌝ }
+    requires { ⌜ lanes * w ≤ k ⌝ }
+    ensures { λ r. ⌜ ((j : ℕ) → j < lanes → bit r j ≡ leb k (lanes * w + j)) ⌝ }
 {
-    let left = k - 64 * w;
-    if left < 64 { !((1u64 << left) - 1) } else { 0 }
+    let left = k - LANES * w;
+    if left < LANES {
+        !((1u64 << left) - 1)
+    } else {
+        0
+    }
 }
 
-// The literal of variable v + 1 that the assignment meets.
-fn met_literal(a: Assignment, v: u32) -> u32
-    requires { ⌜ v < width ⌝ }
-    ensures { λ r. ⌜ r ≡ metWord (value a) v ⌝ }
-{
-    if a.test(v) { 2 * v + 2 } else { 2 * v + 3 }
-}
-
-// Word w of the planes of an assignment: the lanes of each literal that it meets, added up.
-fn start_word(occ: &[u64; 1056], n: u32, k: usize, a: Assignment, w: usize) -> Planes
+// Word w of the planes that count the literals of one sign: the lanes of each of them, added up.
+fn start_word(occ: &[u64; OCCURRENCES], n: u32, k: usize, positive: bool, w: usize) -> Planes
     requires { ⌜ n ≤ width ⌝ }
-    requires { ⌜ (64 * w < k) × (k ≤ 1024) ⌝ }
-    ensures { λ r. ⌜ Summed n k (now (occ .entry)) (value a) w r ⌝ }
+    requires { ⌜ (lanes * w < k) × (k ≤ laneCount) ⌝ }
+    ensures { λ r. ⌜ Summed n k (now (occ .entry)) positive w r ⌝ }
 {
     let mut word = Planes {
         p0: past(k, w),
@@ -150,78 +153,92 @@ fn start_word(occ: &[u64; 1056], n: u32, k: usize, a: Assignment, w: usize) -> P
     };
     let mut v: u32 = 0;
     while v < n {
-        let row = met_literal(a, v) as usize * 16;
+        let row = formula::literal_word(positive, v) as usize * ROW;
         word = word.moved(occ[row + w], 0);
         v += 1;
     }
     word
 }
 
-// The planes of an assignment to n variables.
-pub fn start(occ: &[u64; 1056], n: u32, k: usize, a: Assignment) -> [u64; 64]
+// How many literals of each clause have the sign given, for k clauses over n variables.
+pub fn start(occ: &[u64; OCCURRENCES], n: u32, k: usize, positive: bool) -> [u64; PLANES]
     requires { ⌜ n ≤ width ⌝ }
-    requires { ⌜ k ≤ 1024 ⌝ }
-    ensures { λ r. ⌜ Starts n k (now (occ .entry)) (value a) r ⌝ }
+    requires { ⌜ k ≤ laneCount ⌝ }
+    ensures { λ r. ⌜ Starts n k (now (occ .entry)) positive r ⌝ }
 {
-    let words = (k + 63) / 64;
-    let mut planes = [0u64; 64];
+    let words = (k + (LANES - 1)) / LANES;
+    let mut planes = [0u64; PLANES];
     let mut w: usize = 0;
     while w < words {
-        let word = start_word(occ, n, k, a, w);
+        let word = start_word(occ, n, k, positive, w);
         put_word(&mut planes, w, word);
         w += 1;
     }
     planes
 }
 
-// The next assignment's planes, after a toggle that makes the literal met.
-pub fn flip(occ: &[u64; 1056], k: usize, literal: u32, from: &[u64; 64], to: &mut [u64; 64])
-    requires { ⌜ k ≤ 1024 ⌝ }
-    requires { ⌜ (2 ≤ literal) × (literal < 66) ⌝ }
-    requires { ⌜ length (now to) ≡ 64 ⌝ }
-    ensures { λ r. ⌜ Flips k literal (now (occ .entry)) (now (from .entry)) (now (to .exit)) ⌝ }
+// One more for the clauses that hold the literal `up`, and one less for those that hold `down`.
+pub fn shift(
+    occ: &[u64; OCCURRENCES],
+    k: usize,
+    up: u32,
+    down: u32,
+    from: &[u64; PLANES],
+    to: &mut [u64; PLANES],
+)
+    requires { ⌜ k ≤ laneCount ⌝ }
+    requires { ⌜ (up < rowCount) × (down < rowCount) ⌝ }
+    requires { ⌜ length (now to) ≡ planeCells ⌝ }
+    ensures { λ r. ⌜ Shifted k up down (now (occ .entry)) (now (from .entry)) (now (to .exit)) ⌝ }
 {
-    let words = (k + 63) / 64;
-    let up = literal as usize * 16;
-    let down = (literal ^ 1) as usize * 16;
+    let words = (k + (LANES - 1)) / LANES;
+    let more = up as usize * ROW;
+    let less = down as usize * ROW;
     let mut w: usize = 0;
     while w < words {
-        let next = word_at(from, w).moved(occ[up + w], occ[down + w]);
+        let next = word_at(from, w).moved(occ[more + w], occ[less + w]);
         put_word(to, w, next);
         w += 1;
     }
 }
 
-// The number of the first clause that is false, or k where all are true.
-pub fn first_false(planes: &[u64; 64], k: usize) -> usize
-    requires { ⌜ k ≤ 1024 ⌝ }
-    ensures { λ r. ⌜ ((cells : List ℕ) (m : ℕ) → Counts k cells m (now (planes .entry)) → FirstFalse k cells m r) ⌝ }
+// The number of the first clause with count 0, or k where there is none.
+pub fn first_zero(planes: &[u64; PLANES], k: usize) -> usize
+    requires { ⌜ k ≤ laneCount ⌝ }
+    ensures { λ r. ⌜ ((cells : List ℕ) (count : Clause → ℕ) → Counts k cells count (now (planes .entry)) →
+        FirstZero k cells count r) ⌝ }
 {
-    let words = (k + 63) / 64;
+    let words = (k + (LANES - 1)) / LANES;
     let mut w: usize = 0;
     while w < words {
         let zeros = word_at(planes, w).zeros();
         if zeros != 0 {
-            return 64 * w + u64::trailing_zeros(zeros) as usize;
+            return LANES * w + u64::trailing_zeros(zeros) as usize;
         }
         w += 1;
     }
     k
 }
 
-// Whether every clause is true after a toggle that makes the literal met: the last level of a
-// search asks this alone, and stores no planes.
-pub fn all_true_after(occ: &[u64; 1056], k: usize, literal: u32, planes: &[u64; 64]) -> bool
-    requires { ⌜ k ≤ 1024 ⌝ }
-    requires { ⌜ (2 ≤ literal) × (literal < 66) ⌝ }
-    ensures { λ r. ⌜ Settles k literal (now (occ .entry)) (now (planes .entry)) r ⌝ }
+// Whether every count would be above 0 after `shift`: the last level of a search asks this alone,
+// and stores no planes.
+pub fn above_zero_after(
+    occ: &[u64; OCCURRENCES],
+    k: usize,
+    up: u32,
+    down: u32,
+    planes: &[u64; PLANES],
+) -> bool
+    requires { ⌜ k ≤ laneCount ⌝ }
+    requires { ⌜ (up < rowCount) × (down < rowCount) ⌝ }
+    ensures { λ r. ⌜ AboveZero k up down (now (occ .entry)) (now (planes .entry)) r ⌝ }
 {
-    let words = (k + 63) / 64;
-    let up = literal as usize * 16;
-    let down = (literal ^ 1) as usize * 16;
+    let words = (k + (LANES - 1)) / LANES;
+    let more = up as usize * ROW;
+    let less = down as usize * ROW;
     let mut w: usize = 0;
     while w < words {
-        let zeros = word_at(planes, w).zeros_after(occ[up + w], occ[down + w]);
+        let zeros = word_at(planes, w).zeros_after(occ[more + w], occ[less + w]);
         if zeros != 0 {
             return false;
         }

@@ -1,29 +1,36 @@
 -- What the search machine is given and what it answers, read as the definitions.
 use mathlib.Core.Path.{_≡_}
-use mathlib.Core.Bool.{Bool, false, cond}
-use mathlib.Core.List.{List}
-use Prim.Native.Nat.{ℕ, _+_, _-_, _*_, _^_, _≤_, _<_}
-use lib.ListN.{length}
-use Rattle.words.specs.Bits.{bit}
-use Rattle.words.specs.Value.{width, value}
-use Rattle.formula.specs.Formula.{Literal, met, true?, literalOf}
-use Rattle.formula.specs.Table.{Table, held, clauseAt, lengthAt}
-use Rattle.planes.specs.Counts.{Occurs, Counts}
-use Rattle.search.specs.declared.ball.Found.{Found}
-use Rattle.search.specs.declared.ball.Found.the-variants.{Clear, None, Spent}
+use mathlib.Core.Bool.{Bool, true, false, cond}
+use mathlib.Core.List.{List, [], _∷_, _++_}
+use Prim.Native.Nat.{ℕ, _+_, _-_, _*_, _/_, _%_, _^_, _≤_, _<_, min}
+use lib.ListN.{length, getD, take, replicate}
+use lib.Dec.{eqb}
+use Rattle.words.specs.Lists.{every}
+use Rattle.words.specs.Bits.{bit, toggle, width}
+use Rattle.words.specs.Machine.{bitsOf}
+use Rattle.formula.specs.Formula.{Literal, bitOf, met, true?, literalOf}
+use Rattle.formula.specs.Counts.{metCount}
+use Rattle.formula.specs.Machine.{Table, held, clauseAt, lengthAt}
+use Rattle.tree.specs.declared.Found.{Found}
+use Rattle.tree.specs.Explore.{Outcome, none, try}
+use Rattle.tree.specs.Budget.{Answer}
+use Rattle.tree.specs.BudgetLaws.{settle, rest}
+use Rattle.tree.specs.Machine.{answerIn}
+use Rattle.planes.specs.Machine.{planeCells, Occurs, Counts}
 use Rattle.search.specs.declared.ball.Path.{Path}
-use Rattle.search.specs.Explore.{Outcome, State, flip, skipNone, tried, firstFalseRule, ballSearch, tryLiterals}
-use Rattle.search.specs.Run.{Block, Search, blocks, run, Answer, clear, spent, answer, settle, rest, ball, centreCount}
+use Rattle.search.specs.Ball.{State, reading, isFlipped, flip, isTried, tried, skip, rule, ballSearch}
+use Rattle.search.specs.Run.{Block, Search, plan, blocks, summedRadius, centreAt, ball, centreCount}
+use Rattle.search.specs.declared.centre.Layout.{Layout}
+use Rattle.search.specs.declared.centre.Partial.{Partial}
+use Rattle.code.specs.Machine.{codeCells}
 use Rattle.code.specs.Code.{code}
 
--- the machine's answer as the definition's
-unfoldable pub answerIn : Found → Answer
-answerIn (Clear a c) = clear (value a) c
-answerIn (None c) = Answer.none c
-answerIn (Spent c) = spent c
-
 unfoldable pub stateIn : Path → State
-stateIn p = record { assignment = value (p .assignment); flipped = value (p .flipped) }
+stateIn p = record { assignment = bitsOf (p .assignment); flipped = bitsOf (p .flipped) }
+
+-- the state at a centre: no variable is flipped
+abbrev pub centred : ℕ → State
+centred m = record { assignment = m; flipped = 0 }
 
 -- What every call shares: the table of k clauses, and where its literals occur.
 pub record Ready (k : ℕ) (cells occ : List ℕ) : Type 0 where
@@ -31,49 +38,155 @@ pub record Ready (k : ℕ) (cells occ : List ℕ) : Type 0 where
   pub occurs : Occurs k cells occ
 
 -- the word of a literal over the variables that an assignment has
-abbrev pub Known : ℕ → Type 0
-Known w = (2 ≤ w) × (w < 2 * width + 2)
+abbrev pub IsLiteral : ℕ → Type 0
+IsLiteral w = (2 ≤ w) × (w < 2 * width + 2)
 
--- What the literals of a clause are tried with: the planes' counts are those of the assignment m, the clause is false under it, there is a
--- flip for a call, and the calls made so far are within the budget.
-pub record Trying (k : ℕ) (cells occ planes : List ℕ) (m clause j left calls budget : ℕ) : Type 0 where
+-- ---- what is counted
+
+-- The planes show a state: how many literals of each clause its assignment meets.
+pub record Shows (k : ℕ) (cells : List ℕ) (s : State) (planes : List ℕ) : Type 0 where
+  pub met : Counts k cells (metCount (s .assignment)) planes
+
+-- A literal that a call may try: it is not met, and its variable is not flipped.
+pub record Tryable (s : State) (l : Literal) : Type 0 where
+  pub unmet : met (s .assignment) l ≡ false
+  pub fresh : isFlipped s l ≡ false
+
+-- The planes at the start show the assignment 0.
+pub record Begins (n k : ℕ) (occ planes : List ℕ) : Type 0 where
+  pub size : length planes ≡ planeCells
+  pub shows : (cells : List ℕ) → Table n k cells → Occurs k cells occ → Shows k cells (centred 0) planes
+
+-- r is the number of the clause whose literals the rule tries, or k where all clauses are true.
+pub record Chosen (k : ℕ) (cells : List ℕ) (s : State) (r : ℕ) : Type 0 where
+  pub within : r ≤ k
+  pub all : r ≡ k → every (reading s) (held k cells) ≡ true
+  pub some : r < k → every (reading s) (held k cells) ≡ false
+  pub literals : r < k → rule (held k cells) s ≡ tried (skip (held k cells)) s (clauseAt cells r)
+  pub failing : r < k → true? (s .assignment) (clauseAt cells r) ≡ false
+
+-- The flip of a literal that m does not meet moves the counts of m to those of m with its variable toggled.
+pub record Flips (k literal : ℕ) (occ from to : List ℕ) : Type 0 where
+  pub size : length to ≡ planeCells
+  pub met : (cells : List ℕ) (m : ℕ) → Ready k cells occ → met m (literalOf literal) ≡ false →
+      Counts k cells (metCount m) from → Counts k cells (metCount (toggle m (bitOf (literalOf literal)))) to
+
+-- Whether all clauses are true after the flip of a literal.
+pub record Settles (k literal : ℕ) (occ planes : List ℕ) (r : Bool) : Type 0 where
+  pub answer : (cells : List ℕ) (s : State) → Ready k cells occ → Shows k cells s planes → Tryable s (literalOf literal) →
+      every (reading (flip s (literalOf literal))) (held k cells) ≡ r
+
+-- ---- a call
+
+-- one call at the state s over the clauses in the table, with `left` flips left
+unfoldable pub callFrom : ℕ → List ℕ → ℕ → State → Outcome
+callFrom k cells left s = ballSearch (held k cells) (rule (held k cells)) left s
+
+-- one literal, where the call at s has `left` flips left: a literal that is not tried makes no call
+unfoldable pub attemptFrom : ℕ → List ℕ → ℕ → State → Literal → Outcome
+attemptFrom k cells left s l = cond (isTried (skip (held k cells)) s l) (callFrom k cells (left - 1) (flip s l)) (none 0)
+
+-- some literals in turn
+unfoldable pub literalsFrom : ℕ → List ℕ → ℕ → State → List Literal → Outcome
+literalsFrom k cells left s ls = try (attemptFrom k cells left s) ls
+
+-- What the literals of a clause from number j on are tried with: the clause is false, there is a flip for a call, and the calls
+-- made so far are within the budget.
+pub record Trying (k : ℕ) (cells occ planes : List ℕ) (s : State) (clause j left calls budget : ℕ) : Type 0 where
   pub ready : Ready k cells occ
-  pub counts : Counts k cells m planes
+  pub shows : Shows k cells s planes
   pub inside : clause < k
-  pub falsified : true? m (clauseAt cells clause) ≡ false
+  pub failing : true? (s .assignment) (clauseAt cells clause) ≡ false
   pub flips : 0 < left
   pub enough : calls ≤ budget
   pub more : j ≤ lengthAt cells clause
 
--- one call at the state s over the clauses in the table, with `left` flips left
-unfoldable pub callFrom : ℕ → List ℕ → ℕ → State → Outcome
-callFrom k cells left s = ballSearch (held k cells) (firstFalseRule (held k cells)) left s
-
--- the calls for those of some literals that are tried, where the call at s has `left` flips left
-unfoldable pub literalsFrom : ℕ → List ℕ → ℕ → State → List Literal → Outcome
-literalsFrom k cells left s ls = tryLiterals (held k cells) (firstFalseRule (held k cells)) (left - 1) s (tried skipNone s ls)
-
--- What one literal is tried with: it is one that an assignment has, m does not meet it, and there is a flip for its call.
-pub record Attempting (k : ℕ) (cells occ planes : List ℕ) (m literal left : ℕ) : Type 0 where
+-- What one literal is tried with: it is not met.
+pub record Attempting (k : ℕ) (cells occ planes : List ℕ) (s : State) (literal left calls budget : ℕ) : Type 0 where
   pub ready : Ready k cells occ
-  pub counts : Counts k cells m planes
-  pub known : Known literal
-  pub unmet : met m (literalOf literal) ≡ false
+  pub shows : Shows k cells s planes
+  pub known : IsLiteral literal
+  pub unmet : met (s .assignment) (literalOf literal) ≡ false
   pub flips : 0 < left
+  pub enough : calls ≤ budget
 
 -- the call after the literal's flip, with no flip left
 pub record LastCall (k : ℕ) (occ planes : List ℕ) (s : State) (literal budget made : ℕ) (r : Found) : Type 0 where
-  pub answer : (cells : List ℕ) → Ready k cells occ → Counts k cells (s .assignment) planes → met (s .assignment) (literalOf literal) ≡ false →
+  pub answer : (cells : List ℕ) → Ready k cells occ → Shows k cells s planes → Tryable s (literalOf literal) →
       answerIn r ≡ settle budget made (callFrom k cells 0 (flip s (literalOf literal)))
 
--- the word of the literal of the variable with bit v that is met once the bit is no longer b
-unfoldable pub literalMet : Bool → ℕ → ℕ
-literalMet b v = 2 * v + cond b 3 2
+-- ---- the blocks and their centres
 
--- the planes of the assignment m become those of m′
+-- the first `count` cells are the code
+unfoldable pub blockIn : ℕ → ℕ → ℕ → List ℕ → Block
+blockIn size radius count cells = record { size = size; radius = radius; code = take count cells }
+
+unfoldable pub lastIn : Layout → List ℕ → List Block
+lastIn l cells = cond (eqb (l .last) 0) [] (blockIn (l .last) (min (l .radius) (l .last)) (l .«last_count») cells ∷ [])
+
+-- the blocks that a layout and the cells of its two codes stand for
+unfoldable pub blocksIn : Layout → List ℕ → List ℕ → List Block
+blocksIn l whole last = replicate (l .whole) (blockIn (l .size) (l .radius) (l .count) whole) ++ lastIn l last
+
+-- The first `count` cells are words of the length given.
+pub record Coded (size count : ℕ) (cells : List ℕ) : Type 0 where
+  pub some : 0 < count
+  pub held : count ≤ length cells
+  pub below : (k : ℕ) → k < count → getD cells k 0 < 2 ^ size
+
+-- The layout fits an assignment, and the cells of each block that there is are a code.
+pub record Laid (l : Layout) (whole last : List ℕ) : Type 0 where
+  pub size : 0 < l .size
+  pub fits : l .whole * l .size + l .last ≤ width
+  pub wholes : 0 < l .whole → Coded (l .size) (l .count) whole
+  pub lasts : 0 < l .last → Coded (l .last) (l .«last_count») last
+
+-- The partial centre q has one block more than p: a word of the code goes above the bits so far.
+pub record Joined (size count : ℕ) (cells : List ℕ) (p q : Partial) : Type 0 where
+  pub reads : bitsOf (q .assignment) ≡ getD cells (p .left % count) 0 * 2 ^ p .shift + bitsOf (p .assignment)
+  pub below : bitsOf (q .assignment) < 2 ^ q .shift
+  pub shift : q .shift ≡ p .shift + size
+  pub left : q .left ≡ p .left / count
+
+-- The partial centre p, with the blocks bs still to come, leads to centre i of all blocks.
+pub record Towards (all : List Block) (i : ℕ) (bs : List Block) (p : Partial) : Type 0 where
+  pub total : centreAt bs (p .left) * 2 ^ p .shift + bitsOf (p .assignment) ≡ centreAt all i
+  pub left : p .left / centreCount bs ≡ i / centreCount all
+  pub below : bitsOf (p .assignment) < 2 ^ p .shift
+
+-- The same after j of the whole blocks.
+pub record Midway (l : Layout) (whole last : List ℕ) (i j : ℕ) (p : Partial) : Type 0 where
+  pub within : j ≤ l .whole
+  pub shift : p .shift ≡ j * l .size
+  pub towards : Towards (blocksIn l whole last) i
+      (replicate (l .whole - j) (blockIn (l .size) (l .radius) (l .count) whole) ++ lastIn l last) p
+
+-- The first r cells are the code of length t and radius s.
+pub record Words (t s r : ℕ) (cells : List ℕ) : Type 0 where
+  pub count : r ≡ length (code t s)
+  pub first : take r cells ≡ code t s
+  pub held : r ≤ length cells
+
+-- the code of a block, where there is one
+pub record BlockCode (some t s r : ℕ) (cells : List ℕ) : Type 0 where
+  pub size : length cells ≡ codeCells
+  pub words : 0 < some → Words t s r cells
+
+-- The layout is laid, and has the n variables and the plan's blocks.
+pub record LaidOut (n size radius : ℕ) (l : Layout) (whole last : List ℕ) : Type 0 where
+  pub wholes : length whole ≡ codeCells
+  pub lasts : length last ≡ codeCells
+  pub laid : Laid l whole last
+  pub variables : n ≡ l .whole * l .size + l .last
+  pub reach : radius ≤ size → l .whole * l .radius + min (l .radius) (l .last) ≤ width
+  pub same : blocksIn l whole last ≡ blocks code (plan size radius) n
+
+-- ---- the balls
+
+-- the planes of the centre m become those of m′
 pub record Moves (k : ℕ) (occ : List ℕ) (m : ℕ) (planes : List ℕ) (m′ : ℕ) (planes′ : List ℕ) : Type 0 where
-  pub size : length planes′ ≡ 64
-  pub counts : (cells : List ℕ) → Ready k cells occ → Counts k cells m planes → Counts k cells m′ planes′
+  pub size : length planes′ ≡ planeCells
+  pub shows : (cells : List ℕ) → Ready k cells occ → Shows k cells (centred m) planes → Shows k cells (centred m′) planes′
 
 -- m′ has bit v of w, and its other bits are those of m
 pub record Matched (v m w m′ : ℕ) : Type 0 where
@@ -83,22 +196,31 @@ pub record Matched (v m w m′ : ℕ) : Type 0 where
 
 -- the search over the clauses in the table and the blocks given
 unfoldable pub searchIn : ℕ → List ℕ → List Block → Search
-searchIn k cells bs = record { clauses = held k cells; rule = firstFalseRule (held k cells); blocks = bs }
+searchIn k cells bs = record { clauses = held k cells; rule = rule (held k cells); blocks = bs }
 
 -- what the balls from i on give, where c calls are counted before them
 unfoldable pub ballsFrom : Search → ℕ → ℕ → ℕ → Answer
 ballsFrom q budget c i = settle budget c (rest (ball q) (centreCount (q .blocks)) i)
 
--- Before ball i of the search q: the planes are those of an assignment m of n variables, each ball so far took a call, and the balls from i on
--- give what all balls give.
-pub record Before (q : Search) (k : ℕ) (cells planes : List ℕ) (n m budget calls i : ℕ) : Type 0 where
-  pub size : length planes ≡ 64
-  pub counts : Counts k cells m planes
-  pub below : m < 2 ^ n
-  pub each : i ≤ calls
-  pub enough : calls ≤ budget
-  pub same : ballsFrom q budget calls i ≡ ballsFrom q budget 0 0
+-- What the loop over the balls is given: the planes of the assignment 0, the layout of n variables with its codes, its summed
+-- radius, and the number of the ball to start at.
+pub record Prepared (k : ℕ) (cells occ planes : List ℕ) (n : ℕ) (l : Layout) (whole last : List ℕ) (r i : ℕ) : Type 0 where
+  pub ready : Ready k cells occ
+  pub size : length planes ≡ planeCells
+  pub shows : Shows k cells (centred 0) planes
+  pub wholes : length whole ≡ codeCells
+  pub lasts : length last ≡ codeCells
+  pub laid : Laid l whole last
+  pub variables : n ≡ l .whole * l .size + l .last
+  pub reach : r ≡ summedRadius (blocksIn l whole last)
+  pub start : i < 2 ^ 63
 
--- The answer within the budget, of the first k clauses in the table over n variables, by a plan.
-unfoldable pub answerHere : ℕ → ℕ → List ℕ → ℕ → ℕ → ℕ → Answer
-answerHere n k cells size radius budget = answer budget (run (searchIn k cells (blocks code (record { size = size; radius = radius }) n)))
+-- Before ball i of the search q, which started at the ball `start`: the planes are those of a centre m of n variables, each ball
+-- so far took a call, and the balls from i on give what those from `start` on give.
+pub record Before (q : Search) (k : ℕ) (cells planes : List ℕ) (n m start budget calls i : ℕ) : Type 0 where
+  pub size : length planes ≡ planeCells
+  pub shows : Shows k cells (centred m) planes
+  pub below : m < 2 ^ n
+  pub each : i ≤ start + calls
+  pub enough : calls ≤ budget
+  pub same : ballsFrom q budget calls i ≡ ballsFrom q budget 0 start

@@ -1,12 +1,13 @@
--- The run over all balls (paper 01, "The block code"; source 000, sections 2.3 and 2.4), its bound, and the answer within a budget.
+-- The run over all balls (paper 01, "The block code"; source 000, sections 2.3 and 2.4), and its bound.
 use mathlib.Core.Bool.{cond}
 use mathlib.Core.List.{List, [], _∷_, _++_}
-use Prim.Native.Nat.{ℕ, zero, suc, _+_, _-_, _*_, _/_, _%_, _^_, min, max}
-use lib.Dec.{eqb, leb}
+use Prim.Native.Nat.{ℕ, _+_, _*_, _/_, _%_, _^_, min, max}
+use lib.Dec.{eqb}
 use lib.ListN.{length, getD, replicate}
 use Rattle.words.specs.Lists.{span}
 use Rattle.formula.specs.Formula.{Clause, Formula}
-use Rattle.search.specs.Explore.{Outcome, found, calls, plus, try, Rule, firstFalseRule, ballSearch}
+use Rattle.tree.specs.Explore.{Outcome, try}
+use Rattle.search.specs.Ball.{Rule, rule, ballSearch}
 
 -- ---- the blocks and their centres
 
@@ -14,6 +15,9 @@ use Rattle.search.specs.Explore.{Outcome, found, calls, plus, try, Rule,
 pub record Plan : Type 0 where
   pub size : ℕ
   pub radius : ℕ
+
+abbrev pub plan : ℕ → ℕ → Plan
+plan size radius = record { size = size; radius = radius }
 
 -- A block of variables: their number, the radius, and the words of its covering code.
 pub record Block : Type 0 where
@@ -63,7 +67,7 @@ pub record Search : Type 0 where
 
 -- the search of a formula by a plan
 unfoldable pub searchOf : Code → Plan → Formula → Search
-searchOf code p f = record { clauses = f .clauses; rule = firstFalseRule (f .clauses); blocks = blocks code p (f .n) }
+searchOf code p f = record { clauses = f .clauses; rule = rule (f .clauses); blocks = blocks code p (f .n) }
 
 -- The search in ball i: all flips left, and no variable flipped.
 unfoldable pub ball : Search → ℕ → Outcome
@@ -73,60 +77,9 @@ ball q i = ballSearch (q .clauses) (q .rule) (summedRadius (q .blocks)) (record 
 unfoldable pub run : Search → Outcome
 run q = try (ball q) (span 0 (centreCount (q .blocks)))
 
--- the balls from i up to the end E
-unfoldable pub rest : (ℕ → Outcome) → ℕ → ℕ → Outcome
-rest s E i = try s (span i (E - i))
-
 -- ---- the bound on its calls
 
 -- k: the length of the longest clause
 unfoldable pub longest : List Clause → ℕ
 longest [] = 0
 longest (c ∷ cs) = max (length c) (longest cs)
-
--- 1 + k + … + k^r
-unfoldable pub powers : ℕ → ℕ → ℕ
-powers k zero = k ^ 0
-powers k (suc r) = powers k r + k ^ suc r
-
-unfoldable pub bound : Search → ℕ
-bound q = centreCount (q .blocks) * powers (longest (q .clauses)) (summedRadius (q .blocks))
-
--- ---- the answer within a budget
-
--- The answer (its verdict, refusals apart): an assignment and the calls; the calls; or the budget that is spent.
-pub data Answer : Type 0 where
-  clear : ℕ → ℕ → Answer
-  none : ℕ → Answer
-  spent : ℕ → Answer
-
--- the count of an answer, and its assignment: without one it reads as 0
-unfoldable pub countOf : Answer → ℕ
-countOf (clear m c) = c
-countOf (Answer.none c) = c
-countOf (spent c) = c
-
-unfoldable pub assignmentOf : Answer → ℕ
-assignmentOf (clear m c) = m
-assignmentOf (Answer.none c) = 0
-assignmentOf (spent c) = 0
-
--- the answer of a search carried to its end
-unfoldable pub whole : Outcome → Answer
-whole (found m c) = clear m c
-whole (Outcome.none c) = Answer.none c
-
--- The answer within the budget A: spent where the calls needed are more.
-unfoldable pub answer : ℕ → Outcome → Answer
-answer A o = cond (leb (calls o) A) (whole o) (spent A)
-
--- the answer where c calls were counted before
-unfoldable pub settle : ℕ → ℕ → Outcome → Answer
-settle A c o = answer A (plus c o)
-
--- The calls needed for a formula by a plan, and the answer within the budget A.
-unfoldable pub callsNeeded : Code → Plan → Formula → ℕ
-callsNeeded code p f = calls (run (searchOf code p f))
-
-unfoldable pub answerOf : Code → Plan → Formula → ℕ → Answer
-answerOf code p f A = answer A (run (searchOf code p f))

@@ -1,11 +1,13 @@
 // Centres by their number: quotient and remainder pick a code word for each block.
 use words::Assignment;
 ghost use mathlib.Core.Path.{_≡_};
-ghost use Prim.Native.Nat.{ℕ, _+_, _*_, _/_, _%_, _^_, _≤_, _<_};
+ghost use Prim.Native.Nat.{_+_, _*_, _^_, _≤_, _<_};
 ghost use mathlib.Core.List.{[]};
 ghost use lib.ListN.{length};
-ghost use Rattle.words.specs.Value.{width, value};
-ghost use Rattle.search.specs.Layout.{Coded, Laid, Joined, Towards, blocksIn};
+ghost use Rattle.words.specs.Bits.{width};
+ghost use Rattle.words.specs.Machine.{bitsOf};
+ghost use Rattle.code.specs.Machine.{codeCells};
+ghost use Rattle.search.specs.Machine.{Coded, Laid, Joined, Towards, blocksIn};
 
 // The blocks of a plan: `whole` blocks of `size` variables, and a last one where `last` is not 0.
 // The counts are the numbers of their code words.
@@ -26,23 +28,17 @@ pub struct Partial {
     pub left: u64,
 }
 
-fn wide(x: u16) -> u32
-    ensures { λ r. ⌜ r ≡ x ⌝ }
-{
-    x as u32
-}
-
 impl Partial {
     // One block more.
-    fn with_block(self, code: &[u16; 4096], size: u32, count: u64) -> Partial
+    fn with_block(self, code: &[u16; code::CELLS], size: u32, count: u64) -> Partial
         requires { ⌜ Coded size count (now code) ⌝ }
-        requires { ⌜ length (now code) ≡ 4096 ⌝ }
+        requires { ⌜ length (now code) ≡ codeCells ⌝ }
         requires { ⌜ (0 < size) × (self .shift + size ≤ width) ⌝ }
-        requires { ⌜ value (self .assignment) < 2 ^ self .shift ⌝ }
+        requires { ⌜ bitsOf (self .assignment) < 2 ^ self .shift ⌝ }
         ensures { λ r. ⌜ Joined size count (now (code .entry)) self r ⌝ }
     {
         let at = (self.left % count) as usize;
-        let word = wide(code[at]);
+        let word = words::wide_u16(code[at]);
         let shift = self.shift;
         let assignment = self.assignment;
         Partial {
@@ -55,9 +51,14 @@ impl Partial {
 
 // Centre i: the words of the whole blocks, and of the last one. What is left of i is 0 just where
 // there is a centre i.
-pub fn centre(layout: Layout, whole: &[u16; 4096], last: &[u16; 4096], i: u64) -> Partial
+pub fn centre(
+    layout: Layout,
+    whole: &[u16; code::CELLS],
+    last: &[u16; code::CELLS],
+    i: u64,
+) -> Partial
     requires { ⌜ Laid layout (now whole) (now last) ⌝ }
-    requires { ⌜ (length (now whole) ≡ 4096) × (length (now last) ≡ 4096) ⌝ }
+    requires { ⌜ (length (now whole) ≡ codeCells) × (length (now last) ≡ codeCells) ⌝ }
     ensures { λ r. ⌜ Towards (blocksIn layout (now (whole .entry)) (now (last .entry))) i [] r ⌝ }
     ensures { λ r. ⌜ r .shift ≡ layout .whole * layout .size + layout .last ⌝ }
 {

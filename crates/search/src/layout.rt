@@ -1,27 +1,22 @@
 // The blocks of a plan and their codes, made once for a run.
 use crate::centre::Layout;
 ghost use mathlib.Core.Path.{_≡_};
-ghost use Prim.Native.Nat.{ℕ, _+_, _*_, _/_, _%_, _^_, _≤_, _<_, min};
+ghost use Prim.Native.Nat.{_≤_};
 ghost use lib.ListN.{length};
-ghost use Rattle.words.specs.Value.{width};
-ghost use Rattle.search.specs.LayoutLaws.{BlockCode, LaidOut};
+ghost use Rattle.words.specs.Bits.{width};
+ghost use Rattle.code.specs.Machine.{codeCells};
+ghost use Rattle.search.specs.Machine.{BlockCode, LaidOut};
 
-// 4,096 cells, room for any code.
-pub fn cells() -> [u16; 4096]
-    ensures { λ r. ⌜ length r ≡ 4096 ⌝ }
+// An empty table with room for any code.
+pub fn cells() -> [u16; code::CELLS]
+    ensures { λ r. ⌜ length r ≡ codeCells ⌝ }
 {
-    [0; 4096]
-}
-
-pub fn least(a: u32, b: u32) -> u32
-    ensures { λ r. ⌜ r ≡ min a b ⌝ }
-{
-    if a < b { a } else { b }
+    [0; code::CELLS]
 }
 
 // The code of a block of t variables, if there is such a block: the number of its words.
-fn block_code(blocks: u32, t: u32, s: u32, table: &mut [u16; 4096]) -> u64
-    requires { ⌜ (t ≤ 12) × (length (now table) ≡ 4096) ⌝ }
+fn block_code(blocks: u32, t: u32, s: u32, table: &mut [u16; code::CELLS]) -> u64
+    requires { ⌜ (t ≤ 12) × (length (now table) ≡ codeCells) ⌝ }
     ensures { λ r. ⌜ BlockCode blocks t s r (now (table .exit)) ⌝ }
 {
     if blocks == 0 {
@@ -35,17 +30,17 @@ pub fn lay_out(
     n: u32,
     size: u32,
     radius: u32,
-    whole: &mut [u16; 4096],
-    last: &mut [u16; 4096],
+    whole: &mut [u16; code::CELLS],
+    last: &mut [u16; code::CELLS],
 ) -> Layout
     requires { ⌜ (n ≤ width) × (1 ≤ size) × (size ≤ 12) ⌝ }
-    requires { ⌜ (length (now whole) ≡ 4096) × (length (now last) ≡ 4096) ⌝ }
+    requires { ⌜ (length (now whole) ≡ codeCells) × (length (now last) ≡ codeCells) ⌝ }
     ensures { λ r. ⌜ LaidOut n size radius r (now (whole .exit)) (now (last .exit)) ⌝ }
 {
     let blocks = n / size;
     let rest = n % size;
     let count = block_code(blocks, size, radius, whole);
-    let last_count = block_code(rest, rest, least(radius, rest), last);
+    let last_count = block_code(rest, rest, words::least(radius, rest), last);
     Layout {
         size,
         radius,

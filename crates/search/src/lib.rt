@@ -2,30 +2,40 @@
 mod ball;
 mod balls;
 mod centre;
+mod counts;
 mod layout;
 
-pub use ball::Found;
-use words::Assignment;
+use tree::Found;
 ghost use mathlib.Core.Path.{_≡_};
-ghost use Prim.Native.Nat.{ℕ, _+_, _*_, _≤_, _<_};
-ghost use Rattle.words.specs.Value.{width};
-ghost use Rattle.formula.specs.Table.{Table};
-ghost use Rattle.search.specs.Machine.{answerIn, answerHere};
+ghost use Prim.Native.Nat.{_≤_};
+ghost use Rattle.words.specs.Bits.{width};
+ghost use Rattle.formula.specs.Machine.{Table};
+ghost use Rattle.tree.specs.Machine.{answerIn};
+ghost use Rattle.tree.specs.Budget.{answer};
+ghost use Rattle.code.specs.Code.{code};
+ghost use Rattle.search.specs.Run.{plan, blocks, run};
+ghost use Rattle.search.specs.Machine.{searchIn};
 
 // The answer within the budget, of the k clauses in the table over n variables, by a plan: block
 // length and radius.
-pub fn run(cells: &[u32; 9216], n: u32, k: usize, size: u32, radius: u32, budget: u32) -> Found
+pub fn run(
+    cells: &[u32; formula::CELLS],
+    n: u32,
+    k: usize,
+    size: u32,
+    radius: u32,
+    budget: u32,
+) -> Found
     requires { ⌜ (n ≤ width) × Table n k (now cells) ⌝ }
     requires { ⌜ (1 ≤ size) × (size ≤ 12) × (radius ≤ size) ⌝ }
-    ensures { λ r. ⌜ answerIn r ≡ answerHere n k (now (cells .entry)) size radius budget ⌝ }
+    ensures { λ r. ⌜ answerIn r ≡ answer budget (run (searchIn k (now (cells .entry)) (blocks code (plan size radius) n))) ⌝ }
 {
     let occ = planes::occurrences(cells, k);
-    let zero = Assignment::zero();
-    let mut planes = planes::start(&occ, n, k, zero);
+    let mut planes = counts::start(&occ, n, k);
     let mut whole = layout::cells();
     let mut last = layout::cells();
     let layout = layout::lay_out(n, size, radius, &mut whole, &mut last);
-    let reach = layout.whole * layout.radius + layout::least(layout.radius, layout.last);
+    let reach = layout.whole * layout.radius + words::least(layout.radius, layout.last);
     balls::balls(
         cells,
         &occ,
@@ -36,6 +46,7 @@ pub fn run(cells: &[u32; 9216], n: u32, k: usize, size: u32, radius: u32, budget
         &whole,
         &last,
         reach,
+        0,
         budget,
     )
 }

@@ -1,2 +1,3 @@
 -- What the contracts of the crate trials cite.
 pub mod Bounds
+pub mod Brute

@@ -1,11 +1,13 @@
 // Reads named sheets from standard input and prints what the reader says of each, one line a
 // sheet. `expect.py` makes both the input and the output that is expected.
+use formula::CELLS;
 use formula::Reading;
 use libc::STDIN_FILENO;
 use libc::STDOUT_FILENO;
-ghost use Prim.Native.Nat.{_+_, _*_, _≤_, _<_};
-ghost use lib.ListN.{length};
-ghost use Rattle.formula.specs.Table.{Table};
+use words::wide_u8;
+ghost use Prim.Native.Nat.{_≤_, _<_};
+ghost use lib.ListN;
+ghost use Rattle.formula.specs.Machine.{Row, Rows};
 
 // A literal as the paper writes it: the variable, with a minus where it is negative.
 fn print_literal(word: u32) {
@@ -15,48 +17,56 @@ fn print_literal(word: u32) {
     io::print_decimal(STDOUT_FILENO, (word / 2) as u64);
 }
 
-// The clause whose literals are the cells from `from` to `end`, in brackets.
-fn print_clause(cells: &[u32], from: usize, end: usize)
-    requires { ⌜ (from ≤ end) × (end ≤ length (now cells)) ⌝ }
+// Clause i, in brackets.
+fn print_clause(cells: &[u32; CELLS], i: usize)
+    requires { ⌜ Row (now cells) i ⌝ }
 {
     io::write_all(STDOUT_FILENO, b" (");
-    let mut i = from;
-    while i < end {
-        if from < i {
+    let length = formula::length_at(cells, i);
+    let mut j = 0;
+    while j < length {
+        if 0 < j {
             io::write_all(STDOUT_FILENO, b" ");
         }
-        print_literal(cells[i]);
-        i += 1;
+        print_literal(formula::literal_at(cells, i, j));
+        j += 1;
     }
     io::write_all(STDOUT_FILENO, b")");
 }
 
-// Goes on with a sum over the cells from `from` to `end`, in which their order counts.
-fn add_cells(cells: &[u32], from: usize, end: usize, start: u64) -> u64
-    requires { ⌜ (from ≤ end) × (end ≤ length (now cells)) × (start < 1000003) ⌝ }
+// Goes on with a sum in which the order counts.
+fn add(sum: u64, cell: u32) -> u64
+    requires { ⌜ sum < 1000003 ⌝ }
     ensures { λ r. ⌜ r < 1000003 ⌝ }
 {
-    let mut sum = start;
-    let mut i = from;
-    while i < end {
-        sum = (31 * sum + cells[i] as u64) % 1000003;
-        i += 1;
+    (31 * sum + cell as u64) % 1000003
+}
+
+// Goes on with the sum over the length and the literals of clause i.
+fn add_clause(cells: &[u32; CELLS], i: usize, start: u64) -> u64
+    requires { ⌜ Row (now cells) i × (start < 1000003) ⌝ }
+    ensures { λ r. ⌜ r < 1000003 ⌝ }
+{
+    let length = formula::length_at(cells, i);
+    let mut sum = add(start, length);
+    let mut j = 0;
+    while j < length {
+        sum = add(sum, formula::literal_at(cells, i, j));
+        j += 1;
     }
     sum
 }
 
 // The sum over the whole table; a table of at most 8 clauses is printed, too.
-fn print_clauses(cells: &[u32], n: u32, clauses: usize)
-    requires { ⌜ Table n clauses (now cells) ⌝ }
+fn print_clauses(cells: &[u32; CELLS], clauses: usize)
+    requires { ⌜ Rows clauses (now cells) ⌝ }
 {
     let mut sum: u64 = 0;
     let mut i = 0;
     while i < clauses {
-        let row = 9 * i;
-        let end = row + 1 + cells[row] as usize;
-        sum = add_cells(cells, row, end, sum);
+        sum = add_clause(cells, i, sum);
         if clauses <= 8 {
-            print_clause(cells, row + 1, end);
+            print_clause(cells, i);
         }
         i += 1;
     }
@@ -70,13 +80,13 @@ fn print_field(name: &[u8], number: u64) {
 }
 
 fn print_reading(sheet: &[u8]) {
-    let mut cells = [0u32; 9216];
+    let mut cells = formula::empty_table();
     match formula::read_sheet(sheet, &mut cells) {
         Reading::Accepted { batch, n, clauses } => {
             print_field(b"accepted batch ", batch as u64);
             print_field(b" n ", n as u64);
             print_field(b" clauses ", clauses as u64);
-            print_clauses(&cells, n, clauses);
+            print_clauses(&cells, clauses);
         }
         Reading::Refused(refusal) => {
             print_field(b"refused ", refusal.number as u64);
@@ -86,21 +96,15 @@ fn print_reading(sheet: &[u8]) {
     io::write_all(STDOUT_FILENO, b"\n");
 }
 
-fn wide(x: u8) -> usize
-    ensures { λ r. ⌜ r < 256 ⌝ }
-{
-    x as usize
-}
-
 // Whether the input has so many bytes more, which go to the front of `buffer`.
 fn read_part(buffer: &mut [u8], length: usize) -> bool
-    requires { ⌜ length ≤ lib.ListN.length (now buffer) ⌝ }
+    requires { ⌜ length ≤ ListN.length (now buffer) ⌝ }
 {
     io::read_full(STDIN_FILENO, &mut buffer[..length]) == length
 }
 
 fn print_part(buffer: &[u8], length: usize)
-    requires { ⌜ length ≤ lib.ListN.length (now buffer) ⌝ }
+    requires { ⌜ length ≤ ListN.length (now buffer) ⌝ }
 {
     print_reading(&buffer[..length]);
 }
@@ -111,7 +115,7 @@ fn next() -> bool {
     if io::read_full(STDIN_FILENO, &mut head) < 30 {
         return false;
     }
-    let length = wide(head[28]) + 256 * wide(head[29]);
+    let length = (wide_u8(head[28]) + 256 * wide_u8(head[29])) as usize;
     let mut buffer = io::large_buffer();
     if !read_part(&mut buffer, length) {
         return false;

@@ -1,29 +1,52 @@
 -- The laws of bits: toggling changes that bit and no other; distance counts the bits that differ; distances of blocks add up.
 use mathlib.Core.Path.{_≡_, refl, sym, ap, ap₂, _∙_}
-use mathlib.Core.Bool.{Bool, true, false, cond, not, xor, _&&_, _||_, false≢true, true≢false}
-use Prim.Native.Nat.{ℕ, zero, suc, _+_, _*_, _/_, _%_, _^_, _≤_, _<_, suc-le-suc, min, max}
+use mathlib.Core.Bool.{Bool, true, false, cond, not, xor, _&&_, _||_, true≢false}
+use Prim.Native.Nat.{ℕ, zero, suc, _+_, _*_, _/_, _%_, _^_, _<_, suc-le-suc, min, max}
 use native.Mathlib.Nat.{add-suc, suc-inj, div-lt-iff-lt-mul, pow-suc, div-one, zero-div, mod-lt, mul-mod-left, mul-div-cancel, mul-add-mod-self-right, not-suc-le-zero, le-of-suc-le-suc}
 use native.Mathlib.Numerals.{one-add}
 use native.Mathlib.Omega.{arith}
 use lib.Dec.{eqb, lit<, eqb·zero-suc, eqb·suc-zero, eqb·suc-suc}
-use lib.Bits.{bitAnd, bitOr, bitXor, differ, and-step, or-step, xor-step, and-shr, or-shr, xor-shr, xor-self, xor-comm, xor-lt, xor-block}
-use lib.Count.{ones, ones-step, ones-cat, ones-le}
+use lib.Bits.{bitAnd, bitOr, bitXor, differ, and-step, or-step, xor-step, and-shr, or-shr, xor-shr, xor-self, xor-lt, xor-block}
+use lib.Count.{ones, ones-step, ones-cat}
 use lib.Pow.{pow-lt, shr-shr}
-use borrow.Author.Tests.{eq-eqb, ne-eqb}
+use borrow.Author.Tests.{eq-eqb, ne-eqb, eqb-true, eqb-false}
 use Rattle.words.specs.Bits.{bit, toggle, distance}
+
+-- ---- tests of numbers
+
+-- a test as a number
+abbrev pub digit : Bool → ℕ
+digit b = cond b 1 0
+
+-- a remainder by 2 is 0 or 1
+pub by-parity : (P : ℕ → Type 0) (x : ℕ) → (x % 2 ≡ 0 → P 0) → (x % 2 ≡ 1 → P 1) → P (x % 2)
+by-parity P x even odd = go (x % 2) refl (mod-lt x (lit< tt))
+  where
+    go : (d : ℕ) → x % 2 ≡ d → d < 2 → P d
+    go zero e l = even e
+    go (suc zero) e l = odd e
+    go (suc (suc d)) e l = absurd (omega arith)
+
+-- tests of facts that follow from each other
+pub same-test : (a b c d : ℕ) → (a ≡ b → c ≡ d) → (c ≡ d → a ≡ b) → eqb a b ≡ eqb c d
+same-test a b c d f g = go (eqb a b) refl
+  where
+    go : (t : Bool) → eqb a b ≡ t → t ≡ eqb c d
+    go true e = sym (eq-eqb c d (f (eqb-true a b e)))
+    go false e = sym (ne-eqb c d (λ q. eqb-false a b e (g q)))
+
+-- ---- one bit
 
 -- how many numbers below n pass the test
 unfoldable pub count : ℕ → (ℕ → Bool) → ℕ
 count zero p = 0
 count (suc n) p = cond (p 0) 1 0 + count n (λ v. p (suc v))
 
--- ---- one bit
-
 -- a digit, and the test whether it is 1
-digit : (d : ℕ) → d < 2 → d ≡ cond (eqb d 1) 1 0
-digit zero l = refl
-digit (suc zero) l = refl
-digit (suc (suc d)) l = absurd (not-suc-le-zero (le-of-suc-le-suc (le-of-suc-le-suc l)))
+digit-is : (d : ℕ) → d < 2 → d ≡ cond (eqb d 1) 1 0
+digit-is zero l = refl
+digit-is (suc zero) l = refl
+digit-is (suc (suc d)) l = absurd (omega arith)
 
 -- a bit above the lowest is a bit of the half
 pub bit-suc : (m v : ℕ) → bit m (suc v) ≡ bit (m / 2) v
@@ -39,7 +62,7 @@ unfolding bit
 bit-zero v = rw (zero-div (2 ^ v))
 
 -- a power of two has one bit
-bit-power : (v w : ℕ) → bit (2 ^ v) w ≡ eqb v w
+pub bit-power : (v w : ℕ) → bit (2 ^ v) w ≡ eqb v w
 bit-power zero zero = bit-low 1
 bit-power zero (suc w) = bit-suc 1 w ∙ bit-zero w ∙ sym (eqb·zero-suc w)
 bit-power (suc v) zero = rw (bit-low, pow-suc, mul-mod-left, eqb·suc-zero)
@@ -48,7 +71,7 @@ bit-power (suc v) (suc w) = rw (bit-suc, pow-suc, mul-div-cancel (2 ^ v) {n = 2}
 -- the binary digit that a bit is read from
 digit-bit : (a v : ℕ) → a / 2 ^ v % 2 ≡ cond (bit a v) 1 0
 unfolding bit
-digit-bit a v = digit (a / 2 ^ v % 2) (mod-lt (a / 2 ^ v) (lit< tt))
+digit-bit a v = digit-is (a / 2 ^ v % 2) (mod-lt (a / 2 ^ v) (lit< tt))
 
 -- An operation that works digit by digit, as f does, works bit by bit, as g does.
 module _ (op f : ℕ → ℕ → ℕ) (g : Bool → Bool → Bool)
@@ -118,20 +141,12 @@ half-lt n x h = div-lt-iff-lt-mul (lit< tt) .1 (rw pow-suc at h)
 pub bits-ext : (n a b : ℕ) → a < 2 ^ n → b < 2 ^ n → ((v : ℕ) → v < n → bit a v ≡ bit b v) → a ≡ b
 bits-ext zero a b p q h = omega arith
 bits-ext (suc n) a b p q h =
-    let high : a / 2 ≡ b / 2 =
-    bits-ext n (a / 2) (b / 2) (half-lt n a p) (half-lt n b q) (λ v l. sym (bit-suc a v) ∙ h (suc v) (suc-le-suc l) ∙ bit-suc b v) in
-    let low : a % 2 ≡ b % 2 = digit (a % 2) (b % 2) (mod-lt a (lit< tt)) (mod-lt b (lit< tt)) (sym (bit-low a) ∙ h 0 (omega arith) ∙ bit-low b) in
+    let below : (v : ℕ) → v < n → bit (a / 2) v ≡ bit (b / 2) v =
+    λ v l. sym (bit-suc a v) ∙ h (suc v) (suc-le-suc l) ∙ bit-suc b v in
+    let high : a / 2 ≡ b / 2 = bits-ext n (a / 2) (b / 2) (half-lt n a p) (half-lt n b q) below in
+    let lowest : eqb (a % 2) 1 ≡ eqb (b % 2) 1 = sym (bit-low a) ∙ h 0 (omega arith) ∙ bit-low b in
+    let low : a % 2 ≡ b % 2 = digit-is (a % 2) (mod-lt a (lit< tt)) ∙ ap digit lowest ∙ sym (digit-is (b % 2) (mod-lt b (lit< tt))) in
     omega arith
-  where
-    digit : (x y : ℕ) → x < 2 → y < 2 → eqb x 1 ≡ eqb y 1 → x ≡ y
-    digit zero zero p′ q′ e = refl
-    digit zero (suc y) p′ q′ e =
-        let z : suc y ≡ 1 = omega arith in
-        absurd (false≢true (e ∙ ap (λ (x : ℕ). eqb x 1) z))
-    digit (suc x) zero p′ q′ e =
-        let z : suc x ≡ 1 = omega arith in
-        absurd (true≢false (sym (ap (λ (x : ℕ). eqb x 1) z) ∙ e))
-    digit (suc x) (suc y) p′ q′ e = omega arith
 
 -- ---- counting
 
@@ -139,14 +154,17 @@ pub count-same : (n : ℕ) (p q : ℕ → Bool) → ((v : ℕ) → v < n → p v
 unfolding count
 count-same zero p q h = refl
 count-same (suc n) p q h =
-    ap₂ (λ (b : Bool) (k : ℕ). cond b 1 0 + k) (h 0 (omega arith)) (count-same n (λ v. p (suc v)) (λ v. q (suc v)) (λ v l. h (suc v) (suc-le-suc l)))
+    let rest = count-same n (λ v. p (suc v)) (λ v. q (suc v)) (λ v l. h (suc v) (suc-le-suc l)) in
+    ap₂ (λ (b : Bool) (k : ℕ). cond b 1 0 + k) (h 0 (omega arith)) rest
 
 -- a test that fails at one more place passes at one less
-count-less : (n v : ℕ) (p q : ℕ → Bool) → v < n → p v ≡ true → q v ≡ false → ((w : ℕ) → (v ≡ w → ⊥) → p w ≡ q w) → count n p ≡ suc (count n q)
+count-less : (n v : ℕ) (p q : ℕ → Bool) → v < n → p v ≡ true → q v ≡ false →
+    ((w : ℕ) → (v ≡ w → ⊥) → p w ≡ q w) → count n p ≡ suc (count n q)
 unfolding count
 count-less zero v p q l e f h = absurd (not-suc-le-zero l)
 count-less (suc n) zero p q l e f h =
-    rw (e, f, count-same n (λ v. p (suc v)) (λ v. q (suc v)) (λ v l′. h (suc v) (λ z. let z′ : 0 ≡ suc v = z in omega arith))) (omega arith)
+    let rest = count-same n (λ w. p (suc w)) (λ w. q (suc w)) (λ w l′. h (suc w) (λ z. let z′ : 0 ≡ suc w = z in omega arith)) in
+    rw (e, f, rest) (omega arith)
 count-less (suc n) (suc v) p q l e f h =
     let below : count n (λ w. p (suc w)) ≡ suc (count n (λ w. q (suc w))) =
     count-less n v (λ w. p (suc w)) (λ w. q (suc w)) (le-of-suc-le-suc l) e f (λ w d. h (suc w) (λ z. d (suc-inj z))) in
@@ -158,7 +176,7 @@ count-none zero p e v l = absurd (not-suc-le-zero l)
 count-none (suc n) p e zero l = go (p 0) e
   where
     go : (b : Bool) → cond b 1 0 + count n (λ w. p (suc w)) ≡ 0 → b ≡ false
-    go true z = let z′ : ⊥ = omega arith in absurd z′
+    go true z = absurd (omega arith)
     go false z = refl
 count-none (suc n) p e (suc v) l = count-none n (λ w. p (suc w)) (omega arith) v (le-of-suc-le-suc l)
 
@@ -174,7 +192,7 @@ ones-count zero x h = let e : x ≡ 0 = omega arith in ap ones e ∙ ones-zero
 ones-count (suc n) x h =
     ones-step x
     ∙ ap₂ (λ (d k : ℕ). d + k)
-    (digit (x % 2) (mod-lt x (lit< tt)) ∙ ap (λ (b : Bool). cond b 1 0) (sym (bit-low x)))
+    (digit-is (x % 2) (mod-lt x (lit< tt)) ∙ ap (λ (b : Bool). cond b 1 0) (sym (bit-low x)))
     (ones-count n (x / 2) (half-lt n x h) ∙ count-same n (bit (x / 2)) (λ v. bit x (suc v)) (λ v l. sym (bit-suc x v)))
 
 -- Distance counts the bits that differ below a width.
@@ -186,21 +204,15 @@ pub distance-self : (a : ℕ) → distance a a ≡ 0
 unfolding distance
 distance-self a = rw xor-self ones-zero
 
-pub distance-comm : (a b : ℕ) → distance a b ≡ distance b a
-unfolding distance
-distance-comm a b = ap ones (xor-comm a b)
-
-pub distance-le : (n a b : ℕ) → a < 2 ^ n → b < 2 ^ n → distance a b ≤ n
-unfolding distance
-distance-le n a b p q = ones-le n (bitXor a b) (xor-lt n a b p q)
-
 -- Distances of blocks add up.
-pub distance-blocks : (k a b r s : ℕ) → r < 2 ^ k → s < 2 ^ k → distance (a * 2 ^ k + r) (b * 2 ^ k + s) ≡ distance a b + distance r s
+pub distance-blocks : (k a b r s : ℕ) → r < 2 ^ k → s < 2 ^ k →
+    distance (a * 2 ^ k + r) (b * 2 ^ k + s) ≡ distance a b + distance r s
 unfolding distance
 distance-blocks k a b r s p q = rw (xor-block k a b r s p q) (ones-cat k (bitXor a b) (bitXor r s) (xor-lt k r s p q))
 
 -- Toggling a bit in which a and b differ brings them nearer by one.
-pub distance-toggle : (n a b v : ℕ) → a < 2 ^ n → b < 2 ^ n → v < n → (bit a v ≡ bit b v → ⊥) → distance a b ≡ suc (distance (toggle a v) b)
+pub distance-toggle : (n a b v : ℕ) → a < 2 ^ n → b < 2 ^ n → v < n → (bit a v ≡ bit b v → ⊥) →
+    distance a b ≡ suc (distance (toggle a v) b)
 unfolding xor
 distance-toggle n a b v p q l d =
     distance-count n a b p q
@@ -223,4 +235,6 @@ distance-toggle n a b v p q l d =
 
 -- Numbers at distance 0 are equal.
 pub distance-zero : (n a b : ℕ) → a < 2 ^ n → b < 2 ^ n → distance a b ≡ 0 → a ≡ b
-distance-zero n a b p q e = bits-ext n a b p q (λ v l. xor-same (bit a v) (bit b v) (count-none n _ (sym (distance-count n a b p q) ∙ e) v l))
+distance-zero n a b p q e =
+    let none = count-none n _ (sym (distance-count n a b p q) ∙ e) in
+    bits-ext n a b p q (λ v l. xor-same (bit a v) (bit b v) (none v l))

@@ -16,3 +16,7 @@ toggle m v = bitXor m (2 ^ v)
 -- the Hamming distance: the number of bits in which a and b differ
 unfoldable pub distance : ℕ → ℕ → ℕ
 distance a b = ones (bitXor a b)
+
+-- how many variables an assignment has room for
+abbrev pub width : ℕ
+width = 32

@@ -1,5 +1,6 @@
 -- The definitions and laws of the crate words: lists and their tests, the bits of a number, and what an assignment reads as.
 pub mod Lists
+pub mod ListLaws
 pub mod Bits
 pub mod BitLaws
-pub mod Value
+pub mod Machine

@@ -1,10 +1,14 @@
-// The bits of an assignment, and the two records that every layer above shares.
+// The bits of an assignment, the two records that every layer above shares, and small functions of
+// numbers.
 ghost use mathlib.Core.Path.{_≡_};
-ghost use Prim.Native.Nat.{_+_, _*_, _^_, _<_};
-ghost use Rattle.words.specs.Bits.{bit, toggle, distance};
-ghost use Rattle.words.specs.Value.{width, value};
+ghost use Prim.Native.Nat.{_+_, _*_, _^_, _<_, min};
+ghost use Rattle.words.specs.Bits.{bit, toggle, width};
+ghost use Rattle.words.specs.Machine.{bitsOf};
 
-// An assignment, or a set of variables: bit v - 1 of its number (specs/Value.antt) belongs to
+// How many variables an assignment has room for (specs/Bits.antt).
+pub const WIDTH: u32 = 32;
+
+// An assignment, or a set of variables: bit v - 1 of its number (specs/Machine.antt) belongs to
 // variable v.
 pub struct Assignment {
     pub word: u32,
@@ -18,21 +22,21 @@ pub struct Refusal {
 
 impl Assignment {
     pub fn zero() -> Assignment
-        ensures { λ r. ⌜ value r ≡ 0 ⌝ }
+        ensures { λ r. ⌜ bitsOf r ≡ 0 ⌝ }
     {
         Assignment { word: 0 }
     }
 
     pub fn test(self, v: u32) -> bool
         requires { ⌜ v < width ⌝ }
-        ensures { λ r. ⌜ r ≡ bit (value self) v ⌝ }
+        ensures { λ r. ⌜ r ≡ bit (bitsOf self) v ⌝ }
     {
         (self.word >> v) % 2 == 1
     }
 
     pub fn toggled(self, v: u32) -> Assignment
         requires { ⌜ v < width ⌝ }
-        ensures { λ r. ⌜ value r ≡ toggle (value self) v ⌝ }
+        ensures { λ r. ⌜ bitsOf r ≡ toggle (bitsOf self) v ⌝ }
     {
         Assignment {
             word: self.word ^ (1u32 << v),
@@ -41,17 +45,31 @@ impl Assignment {
 
     // The bits of word above the lowest `shift` bits, which are self's.
     pub fn joined(self, word: u32, shift: u32) -> Assignment
-        requires { ⌜ (shift < width) × (value self < 2 ^ shift) × (word * 2 ^ shift < 2 ^ width) ⌝ }
-        ensures { λ r. ⌜ value r ≡ word * 2 ^ shift + value self ⌝ }
+        requires { ⌜ (shift < width) × (bitsOf self < 2 ^ shift) × (word * 2 ^ shift < 2 ^ width) ⌝ }
+        ensures { λ r. ⌜ bitsOf r ≡ word * 2 ^ shift + bitsOf self ⌝ }
     {
         Assignment {
             word: self.word | (word << shift),
         }
     }
+}
 
-    pub fn distance(self, other: Assignment) -> u32
-        ensures { λ r. ⌜ r ≡ distance (value self) (value other) ⌝ }
-    {
-        u32::count_ones(self.word ^ other.word)
-    }
+// A byte, and a number of 16 bits, as a wider number. A cast in place would ask each caller to
+// prove that what it reads is that small.
+pub fn wide_u8(x: u8) -> u32
+    ensures { λ r. ⌜ (r ≡ x) × (r < 256) ⌝ }
+{
+    x as u32
+}
+
+pub fn wide_u16(x: u16) -> u32
+    ensures { λ r. ⌜ (r ≡ x) × (r < 65536) ⌝ }
+{
+    x as u32
+}
+
+pub fn least(a: u32, b: u32) -> u32
+    ensures { λ r. ⌜ r ≡ min a b ⌝ }
+{
+    if a < b { a } else { b }
 }

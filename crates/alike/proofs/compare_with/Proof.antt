@@ -8,8 +8,8 @@ use Rattle.alike.specs.Alike.{compared}
 use Rattle.alike.proofs.compare_with.Statement.{statement}
 use Rattle.alike.proofs.compare_with.Tie as tie
 
-table-requires : tie.Need-table-requires
-table-requires c κs = search needs
+empty-table-requires : tie.Need-empty-table-requires
+empty-table-requires c κs = search needs
 
 read-sheet-requires : tie.Need-read-sheet-requires
 read-sheet-requires c κs = search needs
@@ -36,9 +36,19 @@ returns c x = rw (sheet-refused _ _ _ (c .before .before .before .read-sheet .en
 returns-2 : tie.Need-returns-2
 unfolding compared
 returns-2 c x =
-    rw (sheet-accepted _ _ _ (c .before .before .before .before .before .before .read-sheet .ensures) _ _ _ (c .before .before .before .before .m .given .1) .0)
+    let b = c .before .before .before .before in
+    rw (sheet-accepted _ _ _ (b .before .before .read-sheet .ensures) _ _ _ (b .m .given .1) .0)
     (c .outcome .ensures ∙ ap (λ (same : Bool). cond same Alike Different) (c .before .tables-alike .ensures x _))
 
 pub compare-with-spec : {M : Type 1} → statement M
 compare-with-spec =
-    tie.close (tie.spec table-requires read-sheet-requires enum-known-refusal enum-known-m tables-alike-requires outcome-requires returns returns-2)
+    tie.close
+    (tie.spec
+    empty-table-requires
+    read-sheet-requires
+    enum-known-refusal
+    enum-known-m
+    tables-alike-requires
+    outcome-requires
+    returns
+    returns-2)

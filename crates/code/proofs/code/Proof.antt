@@ -31,7 +31,8 @@ refuse-requires-2 c κs = search needs
 
 returns-2 : tie.Need-returns-2
 returns-2 c =
-    let law = code-short _ _ _ (is-coded (c .before .before .before)) (rw (c .before .before .power .ensures .0) at (c .before .if2 .taken)) in
+    let short = rw (c .before .before .power .ensures .0) at (c .before .if2 .taken) in
+    let law = code-short _ _ _ (is-coded (c .before .before .before)) short in
     (c .refuse2 .ensures ∙ law .0, law .1)
 
 fill-requires : tie.Need-fill-requires

@@ -30,7 +30,9 @@ sub-t8 : tie.Need-sub-t8
 sub-t8 c = omega (arith, positive c)
 
 add-t9 : tie.Need-add-t9
-add-t9 c = omega (arith, c .before .volume-at .ensures, volume-most (c .before .before .before .before .args .t) (c .before .before .before .before .args .s))
+add-t9 c =
+    let a = c .before .before .before .before .args in
+    omega (arith, c .before .volume-at .ensures, volume-most (a .t) (a .s))
 
 div-t10 : tie.Need-div-t10
 div-t10 c = positive c
@@ -41,8 +43,9 @@ refuse-requires c κs = search needs
 returns : tie.Need-returns
 unfolding floorAnswer
 returns c =
-    rw (← c .before .before .before .measured .ensures, c .before .before .if1 .taken, c .before .volume-at .ensures, c .power .ensures .0)
-    (ap Number (floor-quotient (c .before .before .before .before .args .t) (c .before .before .before .before .args .s)))
+    let tested = c .before .before .before in
+    rw (← tested .measured .ensures, c .before .before .if1 .taken, c .before .volume-at .ensures, c .power .ensures .0)
+    (ap Number (floor-quotient (tested .before .args .t) (tested .before .args .s)))
 
 returns-2 : tie.Need-returns-2
 unfolding floorAnswer

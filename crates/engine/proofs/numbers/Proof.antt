@@ -1,9 +1,9 @@
 -- `numbers` meets its contract, variant by variant.
 use mathlib.Core.Path.{_∙_}
 use borrow.Author.Needs.{needs}
-use Rattle.words.specs.Value.{value}
-use Rattle.engine.specs.Answers.{numbersOf, replyOf}
-use Rattle.engine.specs.Machine.{verdictIn, answerRead}
+use Rattle.words.specs.Machine.{bitsOf}
+use Rattle.engine.specs.Answers.{numbersOf}
+use Rattle.engine.specs.Machine.{verdictIn, decisionIn}
 use Rattle.engine.proofs.numbers.Statement.{statement}
 use Rattle.engine.proofs.numbers.Tie as tie
 
@@ -28,21 +28,38 @@ counted-requires-3 c κs = search needs
 enum-known-verdict-4 : tie.Need-enum-known-verdict-4
 enum-known-verdict-4 c = search needs
 
+declined-requires : tie.Need-declined-requires
+declined-requires c κs = search needs
+
 returns : tie.Need-returns
-unfolding replyOf numbersOf answerRead verdictIn value
+unfolding numbersOf decisionIn verdictIn bitsOf
 returns c = c .counted .ensures ∙ rw (c .before .before .verdict .given .1)
 
 returns-2 : tie.Need-returns-2
-unfolding replyOf numbersOf answerRead verdictIn
+unfolding numbersOf decisionIn verdictIn
 returns-2 c = c .counted2 .ensures ∙ rw (c .before .before .verdict2 .given .1)
 
 returns-3 : tie.Need-returns-3
-unfolding replyOf numbersOf answerRead verdictIn
+unfolding numbersOf decisionIn verdictIn
 returns-3 c = c .counted3 .ensures ∙ rw (c .before .before .verdict3 .given .1)
 
 returns-4 : tie.Need-returns-4
-unfolding replyOf numbersOf answerRead verdictIn
-returns-4 c = rw (c .before .verdict4 .given .1)
+unfolding numbersOf decisionIn verdictIn
+returns-4 c = c .declined .ensures ∙ rw (c .before .before .verdict4 .given .1)
 
 pub numbers-spec : {M : Type 1} → statement M
-numbers-spec = tie.close (tie.spec enum-known-verdict counted-requires enum-known-verdict-2 counted-requires-2 enum-known-verdict-3 counted-requires-3 enum-known-verdict-4 returns returns-2 returns-3 returns-4)
+numbers-spec =
+    tie.close
+    (tie.spec
+    enum-known-verdict
+    counted-requires
+    enum-known-verdict-2
+    counted-requires-2
+    enum-known-verdict-3
+    counted-requires-3
+    enum-known-verdict-4
+    declined-requires
+    returns
+    returns-2
+    returns-3
+    returns-4)

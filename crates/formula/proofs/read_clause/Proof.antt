@@ -1,10 +1,10 @@
--- `read_clause` is `take-clause`, and leaves the clause in its row (Clauses.antt).
+-- `read_clause` is `take-clause`, and leaves the clause in its row (ClausesLaws.antt).
 use mathlib.Core.Path.{_∙_}
 use native.Mathlib.Omega.{arith}
 use lib.ListN.{length-set}
 use borrow.Author.Needs.{needs}
-use Rattle.formula.proofs.Steps.{number-limit}
-use Rattle.formula.proofs.Clauses.{clause-stop, clause-read}
+use Rattle.formula.specs.ResultLaws.{number-limit}
+use Rattle.formula.specs.ClausesLaws.{clause-stop, clause-read}
 use Rattle.formula.proofs.read_clause.Statement.{statement}
 use Rattle.formula.proofs.read_clause.Tie as tie
 
@@ -52,7 +52,8 @@ same-length c = c .before .before .read-literals .kept .1 .1 .1 .1 .0 ∙ simp l
 returns-2 : tie.Need-returns-2
 returns-2 c =
     let b = c .before .before .before .before .before in
-    clause-read _ _ _ _ _ _ _ _ _ _ (b .before .before .take-number .ensures) (b .length .given .1) (omega (arith, b .before .before .before .before .before .pre)) (c .before .before .read-literals .ensures)
+    clause-read _ _ _ _ _ _ _ _ _ _ (b .before .before .take-number .ensures) (b .length .given .1)
+    (omega (arith, b .before .before .before .before .before .pre)) (c .before .before .read-literals .ensures)
 
 pub read-clause-spec : {M : Type 1} → statement M
 read-clause-spec =

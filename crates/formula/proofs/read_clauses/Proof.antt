@@ -1,15 +1,17 @@
--- `read_clauses` is `take-clauses`. The loop's invariant is that of Clauses.antt, with a law for each way out; the measure is what is left of the words.
-use Prim.Native.Nat.{_-_}
+-- `read_clauses` is `take-clauses`. The loop's invariant is that of ClausesLaws.antt, with a law for each way out; the measure is
+-- the words left.
+use Prim.Native.Nat.{_-_, _<_}
 use native.Mathlib.Omega.{arith}
 use borrow.Author.Needs.{needs}
+use Rattle.formula.specs.Formula.{clauseLimit}
 use Rattle.formula.specs.Sheet.{words}
 use Rattle.formula.specs.SheetLaws.{length-words}
-use Rattle.formula.proofs.Clauses.{Rows, start, finish, full, stop, go-on}
+use Rattle.formula.specs.ClausesLaws.{ClausesSofar, start, finish, full, stop, go-on}
 use Rattle.formula.proofs.read_clauses.Statement.{statement}
 use Rattle.formula.proofs.read_clauses.Tie as tie
 
 abbrev Inv-loop : tie.InvT-loop
-Inv-loop part n cells₀ count at₀ k₀ cells at k = Rows n (words part) cells at k
+Inv-loop part n cells₀ count at₀ k₀ cells at k = ClausesSofar n (words part) cells at k
 
 abbrev μ-loop : tie.MeasureT-loop
 μ-loop part n cells₀ count at₀ k₀ cells at k = count - at
@@ -43,11 +45,16 @@ enum-told c = search needs
 same-length-2 : tie.Need-same-length-2 Inv-loop μ-loop
 same-length-2 c = search needs
 
+-- the table has a row for the clause that was read
+room : (u : tie.After-read-clause Inv-loop μ-loop) → u .before .before .before .before .loop .k < clauseLimit
+room u = omega (arith, u .before .before .if1 .left, u .before .before .before .before .loop .inv .rows .room)
+
 returns-2 : tie.Need-returns-2 Inv-loop μ-loop
 returns-2 c =
     let u = c .before .before .before .before in
     let i = u .before .before .before in
-    stop _ _ _ _ _ (i .before .loop .inv) (rw length-words (i .loop-test .taken)) (omega (arith, u .before .before .if1 .left, i .before .loop .inv .most)) _ _ _ (u .read-clause .ensures) (c .enum-told .given .1)
+    stop _ _ _ _ _ (i .before .loop .inv) (rw length-words (i .loop-test .taken)) (room u) _ _ _
+    (u .read-clause .ensures) (c .enum-told .given .1)
 
 cast-at : tie.Need-cast-at Inv-loop μ-loop
 cast-at c = search needs
@@ -68,8 +75,8 @@ loop-again : tie.Need-loop-again Inv-loop μ-loop
 loop-again c =
     let u = c .before .before .before .before .before in
     let i = u .before .before .before in
-    go-on _ _ _ _ _ (i .before .loop .inv) (rw length-words (i .loop-test .taken)) (omega (arith, u .before .before .if1 .left, i .before .loop .inv .most)) _ _ _ (u .read-clause .ensures) (c .before .clause .given .1)
-    (u .read-clause .kept .1 .1 .1 .0)
+    go-on _ _ _ _ _ (i .before .loop .inv) (rw length-words (i .loop-test .taken)) (room u) _ _ _
+    (u .read-clause .ensures) (c .before .clause .given .1) (u .read-clause .kept .1 .1 .1 .0)
 
 same-length-3 : tie.Need-same-length-3 Inv-loop μ-loop
 same-length-3 c = search needs

@@ -1,11 +1,11 @@
--- `read_into` is `parse`, and leaves the clauses in the table: each way out is a law of Whole.antt.
+-- `read_into` is `parse`, and leaves the clauses in the table: each way out is a law of WholeLaws.antt.
 use mathlib.Core.Path.{_≡_, _∙_}
 use native.Mathlib.Omega.{arith}
 use lib.ListN.{length-take, length-drop}
 use denote.Ref.{now}
 use borrow.Author.Needs.{needs}
 use Rattle.formula.specs.Sheet.{words, take-formula, parse}
-use Rattle.formula.proofs.Whole.{refused-read, too-long, uneven, too-short, whole, header-limit, header-stop, clauses-stop, sheet-read}
+use Rattle.formula.specs.WholeLaws.{refused-read, too-long, uneven, too-short, whole, header-limit, header-stop, clauses-stop, sheet-read}
 use Rattle.formula.proofs.read_into.Statement.{statement}
 use Rattle.formula.proofs.read_into.Tie as tie
 
@@ -29,7 +29,9 @@ declined-requires-3 : tie.Need-declined-requires-3
 declined-requires-3 c κs = search needs
 
 returns-3 : tie.Need-returns-3
-returns-3 c = refused-read _ _ _ _ _ (too-short _ (c .before .before .before .if1 .left) (c .before .before .if2 .left) (c .before .if3 .taken)) (c .declined3 .ensures)
+returns-3 c =
+    refused-read _ _ _ _ _ (too-short _ (c .before .before .before .if1 .left) (c .before .before .if2 .left) (c .before .if3 .taken))
+    (c .declined3 .ensures)
 
 read-header-requires : tie.Need-read-header-requires
 read-header-requires c κs = search needs
@@ -80,7 +82,8 @@ returns-5 c =
     let u = c .before .before .before .before .before in
     let h = u .before .before .before .before in
     let e = h .before .before .before in
-    sheet-read _ (opened e) _ (h .before .before .read-header .ensures) _ _ _ (h .header .given .1) _ _ (u .read-clauses .ensures) _ (c .before .k .given .1)
+    sheet-read _ (opened e) _ (h .before .before .read-header .ensures) _ _ _ (h .header .given .1) _ _ (u .read-clauses .ensures) _
+    (c .before .k .given .1)
     (u .read-clauses .kept .1 .1 .0 ∙ e .before .before .before .before .before .pre)
 
 same-length-2 : tie.Need-same-length-2
@@ -91,7 +94,8 @@ returns-6 c =
     let u = c .before .before .before .before .before in
     let h = u .before .before .before .before in
     let e = h .before .before .before in
-    clauses-stop _ (opened e) _ (h .before .before .read-header .ensures) _ _ _ (h .header .given .1) _ _ (u .read-clauses .ensures) _ (c .before .x .given .1)
+    clauses-stop _ (opened e) _ (h .before .before .read-header .ensures) _ _ _ (h .header .given .1) _ _ (u .read-clauses .ensures) _
+    (c .before .x .given .1)
 
 pub read-into-spec : {M : Type 1} → statement M
 read-into-spec =

@@ -1,16 +1,17 @@
--- `read_literals` is `take-literals`. The loop's invariant is that of Literals.antt, with a law for each way out; the measure is what is left of c.
-use Prim.Native.Nat.{_-_}
+-- `read_literals` is `take-literals`. The loop's invariant is that of LiteralsLaws.antt, with a law for each way out; the measure is
+-- what c leaves.
+use Prim.Native.Nat.{_-_, _/_, _≤_}
 use native.Mathlib.Omega.{arith}
 use borrow.Author.Needs.{needs}
-use Rattle.words.specs.Value.{value}
+use Rattle.words.specs.Machine.{bitsOf}
 use Rattle.formula.specs.SheetLaws.{length-words}
 use Rattle.formula.specs.Sheet.{words}
-use Rattle.formula.proofs.Literals.{Sofar, start, finish, torn, stop, go-on, literal-known}
+use Rattle.formula.specs.LiteralsLaws.{LiteralsSofar, start, finish, torn, stop, go-on, literal-known}
 use Rattle.formula.proofs.read_literals.Statement.{statement}
 use Rattle.formula.proofs.read_literals.Tie as tie
 
 abbrev Inv-loop : tie.InvT-loop
-Inv-loop part at n c cells₀ from count seen₀ j₀ cells seen j = Sofar n c at from (words part) cells₀ cells (value seen) j
+Inv-loop part at n c cells₀ from count seen₀ j₀ cells seen j = LiteralsSofar n c at from (words part) cells₀ cells (bitsOf seen) j
 
 abbrev μ-loop : tie.MeasureT-loop
 μ-loop part at n c cells₀ from count seen₀ j₀ cells seen j = c - j
@@ -40,7 +41,9 @@ same-length : tie.Need-same-length Inv-loop μ-loop
 same-length c = search needs
 
 returns : tie.Need-returns Inv-loop μ-loop
-returns c = torn _ _ _ _ _ _ _ _ _ (c .before .before .before .loop .inv) (c .before .before .loop-test .taken) _ (rw length-words (omega arith)) (c .refused .ensures)
+returns c =
+    let inv = c .before .before .before .loop .inv in
+    torn _ _ _ _ _ _ _ _ _ inv (c .before .before .loop-test .taken) _ (rw length-words (omega arith)) (c .refused .ensures)
 
 take-literal-requires : tie.Need-take-literal-requires Inv-loop μ-loop
 take-literal-requires c κs = search needs
@@ -58,7 +61,8 @@ returns-2 : tie.Need-returns-2 Inv-loop μ-loop
 returns-2 c =
     let u = c .before .before in
     let inv = u .before .before .before .loop .inv in
-    stop _ _ _ _ _ _ _ _ _ inv (u .before .before .loop-test .taken) (rw length-words (omega arith)) _ _ (u .take-literal .ensures _ (inv .named)) (c .enum-told .given .1)
+    stop _ _ _ _ _ _ _ _ _ inv (u .before .before .loop-test .taken) (rw length-words (omega arith)) _ _
+    (u .take-literal .ensures _ (inv .named)) (c .enum-told .given .1)
 
 cast-cells : tie.Need-cast-cells Inv-loop μ-loop
 cast-cells c = search needs
@@ -72,16 +76,19 @@ mul-cells c = search needs
 slice-write-cells : tie.Need-slice-write-cells Inv-loop μ-loop
 slice-write-cells c = search needs
 
+-- the variable of the literal that was taken
+known : (l : tie.After-literal Inv-loop μ-loop) →
+    let v = l .literal .given .0 .0 in
+    (1 ≤ v / 2) × (v / 2 ≤ l .before .before .before .before .before .before .before .before .before .args .n)
+known l =
+    let u = l .before .before in
+    literal-known _ _ _ _ _ _ (u .take-literal .ensures _ (u .before .before .before .loop .inv .named)) (l .literal .given .1)
+
 sub-toggled : tie.Need-sub-toggled Inv-loop μ-loop
-sub-toggled c =
-    let u = c .before .before .before in
-    literal-known _ _ _ _ _ _ (u .take-literal .ensures _ (u .before .before .before .loop .inv .named)) (c .before .literal .given .1) .0
+sub-toggled c = known (c .before) .0
 
 toggled-requires : tie.Need-toggled-requires Inv-loop μ-loop
-toggled-requires c κs =
-    let u = c .before .before .before in
-    let known = literal-known _ _ _ _ _ _ (u .take-literal .ensures _ (u .before .before .before .loop .inv .named)) (c .before .literal .given .1) in
-    omega arith
+toggled-requires c κs = omega (arith, known (c .before))
 
 add-j : tie.Need-add-j Inv-loop μ-loop
 add-j c = search needs
@@ -94,7 +101,8 @@ loop-again c =
     let u = c .before .before .before .before in
     let inv = u .before .before .before .loop .inv in
     rw (c .toggled .ensures)
-    (go-on _ _ _ _ _ _ _ _ _ inv (u .before .before .loop-test .taken) (rw length-words (omega arith)) _ _ (u .take-literal .ensures _ (inv .named)) (c .before .before .literal .given .1) (omega arith))
+    (go-on _ _ _ _ _ _ _ _ _ inv (u .before .before .loop-test .taken) (rw length-words (omega arith)) _ _
+    (u .take-literal .ensures _ (inv .named)) (c .before .before .literal .given .1) (omega arith))
 
 same-length-3 : tie.Need-same-length-3 Inv-loop μ-loop
 same-length-3 c = search needs

@@ -2,7 +2,7 @@
 use borrow.Author.Needs.{needs}
 use borrow.Author.Tests.{eq-eqb, ne-eqb}
 use Rattle.formula.specs.Sheet.{kind, value}
-use Rattle.formula.specs.Reading.{wordTaken}
+use Rattle.formula.specs.Machine.{wordTaken}
 use Rattle.formula.proofs.take_word.Statement.{statement}
 use Rattle.formula.proofs.take_word.Tie as tie
 

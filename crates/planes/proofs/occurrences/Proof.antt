@@ -3,21 +3,21 @@ use mathlib.Core.Path.{_≡_, refl}
 use Prim.Native.Nat.{_-_, _≤_, _<_}
 use native.Mathlib.Omega.{arith}
 use lib.ListN.{length}
-use Rattle.words.specs.Value.{width}
-use Rattle.formula.specs.ClauseLaws.{clause-known, table-wider}
-use Rattle.planes.specs.Counts.{Occurs}
+use Rattle.words.specs.Bits.{width}
+use Rattle.formula.specs.TableLaws.{clause-known, table-wider}
+use Rattle.planes.specs.Machine.{Occurs, occurrenceCells}
 use Rattle.planes.specs.OccurLaws.{occurs-none, occurs-more}
 use Rattle.planes.proofs.occurrences.Statement.{statement}
 use Rattle.planes.proofs.occurrences.Tie as tie
 
 abbrev Inv-loop : tie.InvT-loop
-Inv-loop cells k occ₀ i₀ occ i = (i ≤ k) × (length occ ≡ 1056) × Occurs i cells occ
+Inv-loop cells k occ₀ i₀ occ i = (i ≤ k) × (length occ ≡ occurrenceCells) × Occurs i cells occ
 
 abbrev μ-loop : tie.MeasureT-loop
 μ-loop cells k occ₀ i₀ occ i = k - i
 
 loop-holds : tie.Need-loop-holds Inv-loop μ-loop
-loop-holds c = (omega arith, refl, occurs-none 1056 (c .args .cells .now))
+loop-holds c = (omega arith, refl, occurs-none occurrenceCells (c .args .cells .now))
 
 mark-requires : tie.Need-mark-requires Inv-loop μ-loop
 mark-requires c κs =
@@ -25,7 +25,8 @@ mark-requires c κs =
     let i = c .before .before .loop .i in
     let t = start .pre .table in
     let h : i < start .args .k = c .before .loop-test .taken in
-    (omega (arith, t .room), (t .size, (c .before .before .loop .inv .1, (t .short i h, λ j l. clause-known width _ _ (table-wider _ width _ _ (start .pre .small) t) i h j l .1))))
+    let known = clause-known width _ _ (table-wider _ width _ _ (start .pre .small) t) i h in
+    (omega (arith, t .room), (t .size, (c .before .before .loop .inv .1, (t .short i h, λ j l. known j l .1))))
 
 add-i : tie.Need-add-i Inv-loop μ-loop
 add-i c = omega arith

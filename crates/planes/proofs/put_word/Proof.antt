@@ -20,20 +20,26 @@ mul-planes-2 c = omega arith
 element-write-planes-2 : tie.Need-element-write-planes-2
 element-write-planes-2 c = omega arith
 
+mul-planes-3 : tie.Need-mul-planes-3
+mul-planes-3 c = omega arith
+
 add-planes-2 : tie.Need-add-planes-2
 add-planes-2 c = omega arith
 
-mul-planes-3 : tie.Need-mul-planes-3
-mul-planes-3 c = omega arith
+mul-planes-4 : tie.Need-mul-planes-4
+mul-planes-4 c = omega arith
 
 element-write-planes-3 : tie.Need-element-write-planes-3
 element-write-planes-3 c = omega arith
 
+mul-planes-5 : tie.Need-mul-planes-5
+mul-planes-5 c = omega arith
+
 add-planes-3 : tie.Need-add-planes-3
 add-planes-3 c = omega arith
 
-mul-planes-4 : tie.Need-mul-planes-4
-mul-planes-4 c = omega arith
+mul-planes-6 : tie.Need-mul-planes-6
+mul-planes-6 c = omega arith
 
 element-write-planes-4 : tie.Need-element-write-planes-4
 element-write-planes-4 c = omega arith
@@ -54,10 +60,12 @@ put-word-spec =
     add-planes
     mul-planes-2
     element-write-planes-2
-    add-planes-2
     mul-planes-3
-    element-write-planes-3
-    add-planes-3
+    add-planes-2
     mul-planes-4
+    element-write-planes-3
+    mul-planes-5
+    add-planes-3
+    mul-planes-6
     element-write-planes-4
     returns)

@@ -1,18 +1,17 @@
--- `start_word` meets its contract: variable by variable, `moved` adds the lanes of the literal that is met.
+-- `start_word` meets its contract: variable by variable, `moved` adds the lanes of the literal of the sign.
 use mathlib.Core.Path.{_≡_}
 use Prim.Native.Nat.{_-_, _≤_}
 use native.Mathlib.Omega.{arith}
-use Rattle.words.specs.Value.{value}
-use Rattle.planes.specs.Counts.{Summed}
+use Rattle.planes.specs.Machine.{Summed}
 use Rattle.planes.specs.StartLaws.{row-below, summed-none, summed-more}
 use Rattle.planes.proofs.start_word.Statement.{statement}
 use Rattle.planes.proofs.start_word.Tie as tie
 
 abbrev Inv-loop : tie.InvT-loop
-Inv-loop occ n k a w word₀ v₀ word v = (v ≤ n) × Summed v k occ (value a) w word
+Inv-loop occ n k positive w word₀ v₀ word v = (v ≤ n) × Summed v k occ positive w word
 
 abbrev μ-loop : tie.MeasureT-loop
-μ-loop occ n k a w word₀ v₀ word v = n - v
+μ-loop occ n k positive w word₀ v₀ word v = n - v
 
 past-requires : tie.Need-past-requires Inv-loop μ-loop
 past-requires c κs = omega arith
@@ -20,10 +19,10 @@ past-requires c κs = omega arith
 loop-holds : tie.Need-loop-holds Inv-loop μ-loop
 loop-holds c =
     let start = c .before .args in
-    (omega arith, summed-none (start .k) (start .occ .now) (value (start .a)) (start .w) (c .past .result) (c .past .ensures))
+    (omega arith, summed-none (start .k) (start .occ .now) (start .positive) (start .w) (c .past .result) (c .past .ensures))
 
-met-literal-requires : tie.Need-met-literal-requires Inv-loop μ-loop
-met-literal-requires c κs = omega arith
+literal-word-requires : tie.Need-literal-word-requires Inv-loop μ-loop
+literal-word-requires c κs = omega arith
 
 cast-row : tie.Need-cast-row Inv-loop μ-loop
 cast-row c = omega arith
@@ -40,7 +39,7 @@ mul-moved c = omega arith
 element-copy-out-moved : tie.Need-element-copy-out-moved Inv-loop μ-loop
 element-copy-out-moved c =
     let start = c .before .before .before .before in
-    omega (arith, row-below (value (start .args .a)) (c .before .before .loop .v) (omega arith))
+    omega (arith, row-below (start .args .positive) (c .before .before .loop .v) (omega arith))
 
 moved-requires : tie.Need-moved-requires Inv-loop μ-loop
 moved-requires c κs = omega arith
@@ -56,8 +55,8 @@ loop-again c =
     let turn = c .before .before in
     let start = turn .before .before .before .before .args in
     let loop = turn .before .before .loop in
-    let row = rw (turn .met-literal .ensures) at (c .moved .ensures) in
-    (omega arith, summed-more (loop .v) (start .k) (start .occ .now) (value (start .a)) (start .w) (loop .word) _ (loop .inv .1) row)
+    let row = rw (turn .literal-word .ensures) at (c .moved .ensures) in
+    (omega arith, summed-more (loop .v) (start .k) (start .occ .now) (start .positive) (start .w) (loop .word) _ (loop .inv .1) row)
 
 returns : tie.Need-returns Inv-loop μ-loop
 returns c =
@@ -72,7 +71,7 @@ start-word-spec =
     μ-loop
     past-requires
     loop-holds
-    met-literal-requires
+    literal-word-requires
     cast-row
     mul-row
     add-moved

@@ -1,7 +1,7 @@
 -- `word_at` meets its contract: what it reads is `planesAt`.
 use mathlib.Core.Path.{refl}
 use native.Mathlib.Omega.{arith}
-use Rattle.planes.specs.Planes.{planesAt}
+use Rattle.planes.specs.Machine.{planesAt}
 use Rattle.planes.proofs.word_at.Statement.{statement}
 use Rattle.planes.proofs.word_at.Tie as tie
 
@@ -20,23 +20,29 @@ mul-t8 c = omega arith
 element-copy-out-t11 : tie.Need-element-copy-out-t11
 element-copy-out-t11 c = omega arith
 
-add-t12 : tie.Need-add-t12
-add-t12 c = omega arith
+mul-t12 : tie.Need-mul-t12
+mul-t12 c = omega arith
 
-mul-t13 : tie.Need-mul-t13
-mul-t13 c = omega arith
+add-t13 : tie.Need-add-t13
+add-t13 c = omega arith
 
-element-copy-out-t16 : tie.Need-element-copy-out-t16
-element-copy-out-t16 c = omega arith
+mul-t14 : tie.Need-mul-t14
+mul-t14 c = omega arith
 
-add-t17 : tie.Need-add-t17
-add-t17 c = omega arith
+element-copy-out-t17 : tie.Need-element-copy-out-t17
+element-copy-out-t17 c = omega arith
 
 mul-t18 : tie.Need-mul-t18
 mul-t18 c = omega arith
 
-element-copy-out-t21 : tie.Need-element-copy-out-t21
-element-copy-out-t21 c = omega arith
+add-t19 : tie.Need-add-t19
+add-t19 c = omega arith
+
+mul-t20 : tie.Need-mul-t20
+mul-t20 c = omega arith
+
+element-copy-out-t23 : tie.Need-element-copy-out-t23
+element-copy-out-t23 c = omega arith
 
 returns : tie.Need-returns
 unfolding planesAt
@@ -51,10 +57,12 @@ word-at-spec =
     add-t7
     mul-t8
     element-copy-out-t11
-    add-t12
-    mul-t13
-    element-copy-out-t16
-    add-t17
+    mul-t12
+    add-t13
+    mul-t14
+    element-copy-out-t17
     mul-t18
-    element-copy-out-t21
+    add-t19
+    mul-t20
+    element-copy-out-t23
     returns)

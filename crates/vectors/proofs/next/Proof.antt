@@ -15,23 +15,26 @@ read-full-requires c κs = search needs
 returns : tie.Need-returns
 returns c = search needs
 
-array-read-wide : tie.Need-array-read-wide
-array-read-wide c = search needs
+array-read-wide-u8 : tie.Need-array-read-wide-u8
+array-read-wide-u8 c = search needs
 
-wide-requires : tie.Need-wide-requires
-wide-requires c κs = search needs
+wide-u8-requires : tie.Need-wide-u8-requires
+wide-u8-requires c κs = search needs
 
-array-read-wide-2 : tie.Need-array-read-wide-2
-array-read-wide-2 c = search needs
+array-read-wide-u8-2 : tie.Need-array-read-wide-u8-2
+array-read-wide-u8-2 c = search needs
 
-wide-requires-2 : tie.Need-wide-requires-2
-wide-requires-2 c κs = search needs
+wide-u8-requires-2 : tie.Need-wide-u8-requires-2
+wide-u8-requires-2 c κs = search needs
 
 mul-length : tie.Need-mul-length
 mul-length c = search needs
 
 add-length : tie.Need-add-length
 add-length c = search needs
+
+cast-length : tie.Need-cast-length
+cast-length c = search needs
 
 large-buffer-requires : tie.Need-large-buffer-requires
 large-buffer-requires c κs = search needs
@@ -72,12 +75,13 @@ next-spec =
     slice-aggregate-read-full
     read-full-requires
     returns
-    array-read-wide
-    wide-requires
-    array-read-wide-2
-    wide-requires-2
+    array-read-wide-u8
+    wide-u8-requires
+    array-read-wide-u8-2
+    wide-u8-requires-2
     mul-length
     add-length
+    cast-length
     large-buffer-requires
     slice-aggregate-read-part
     read-part-requires

@@ -1,22 +1,25 @@
--- `print_clause` reads within the table, and ends.
+-- `print_clause` reads within the row, and ends.
 use mathlib.Core.Path.{_≡_}
-use Prim.Native.Nat.{_-_, _≤_}
-use lib.ListN.{length}
+use Prim.Native.Nat.{_-_}
+use lib.ListN as ListN
 use borrow.Author.Needs.{needs}
 use Rattle.vectors.proofs.print_clause.Statement.{statement}
 use Rattle.vectors.proofs.print_clause.Tie as tie
 
 abbrev Inv-loop : tie.InvT-loop
-Inv-loop cells from end i₀ t6 t7 i = (i ≤ end) × (1 ≡ length t6) × (1 ≡ length t7)
+Inv-loop cells i length j₀ t6 t7 j = (1 ≡ ListN.length t6) × (1 ≡ ListN.length t7)
 
 abbrev μ-loop : tie.MeasureT-loop
-μ-loop cells from end i₀ t6 t7 i = end - i
+μ-loop cells i length j₀ t6 t7 j = length - j
 
 slice-aggregate-write-all : tie.Need-slice-aggregate-write-all Inv-loop μ-loop
 slice-aggregate-write-all c = search needs
 
 write-all-requires : tie.Need-write-all-requires Inv-loop μ-loop
 write-all-requires c κs = search needs
+
+length-at-requires : tie.Need-length-at-requires Inv-loop μ-loop
+length-at-requires c κs = search needs
 
 loop-holds : tie.Need-loop-holds Inv-loop μ-loop
 loop-holds c = search needs
@@ -27,17 +30,14 @@ slice-aggregate-write-all-2 c = search needs
 write-all-requires-2 : tie.Need-write-all-requires-2 Inv-loop μ-loop
 write-all-requires-2 c κs = search needs
 
-mul-print-literal : tie.Need-mul-print-literal Inv-loop μ-loop
-mul-print-literal c = search needs
-
-shared-slice-read-print-literal : tie.Need-shared-slice-read-print-literal Inv-loop μ-loop
-shared-slice-read-print-literal c = search needs
+literal-at-requires : tie.Need-literal-at-requires Inv-loop μ-loop
+literal-at-requires c κs = search needs
 
 print-literal-requires : tie.Need-print-literal-requires Inv-loop μ-loop
 print-literal-requires c κs = search needs
 
-add-i : tie.Need-add-i Inv-loop μ-loop
-add-i c = search needs
+add-j : tie.Need-add-j Inv-loop μ-loop
+add-j c = search needs
 
 loop-less : tie.Need-loop-less Inv-loop μ-loop
 loop-less c = search needs
@@ -62,13 +62,13 @@ print-clause-spec =
     μ-loop
     slice-aggregate-write-all
     write-all-requires
+    length-at-requires
     loop-holds
     slice-aggregate-write-all-2
     write-all-requires-2
-    mul-print-literal
-    shared-slice-read-print-literal
+    literal-at-requires
     print-literal-requires
-    add-i
+    add-j
     loop-less
     loop-again
     slice-aggregate-write-all-3

@@ -1,9 +1,12 @@
 -- `print_reading` hands on a table that holds clauses: that is what an accepted sheet's reading says.
-use mathlib.Core.Path.{sym}
 use borrow.Author.Needs.{needs}
 use Rattle.formula.specs.ReadingLaws.{sheet-accepted}
+use Rattle.formula.specs.TableLaws.{table-rows}
 use Rattle.vectors.proofs.print_reading.Statement.{statement}
 use Rattle.vectors.proofs.print_reading.Tie as tie
+
+empty-table-requires : tie.Need-empty-table-requires
+empty-table-requires c κs = search needs
 
 read-sheet-requires : tie.Need-read-sheet-requires
 read-sheet-requires c κs = search needs
@@ -35,11 +38,10 @@ slice-aggregate-print-field-3 c = search needs
 print-field-requires-3 : tie.Need-print-field-requires-3
 print-field-requires-3 c κs = search needs
 
-slice-aggregate-print-clauses : tie.Need-slice-aggregate-print-clauses
-slice-aggregate-print-clauses c = sym (sheet-accepted _ _ _ (c .before .before .before .before .before .before .before .before .before .before .read-sheet .ensures) _ _ _ (c .before .before .before .before .before .before .before .before .batch .given .1) .1 .size)
-
 print-clauses-requires : tie.Need-print-clauses-requires
-print-clauses-requires c κs = sheet-accepted _ _ _ (c .before .before .before .before .before .before .before .before .before .before .read-sheet .ensures) _ _ _ (c .before .before .before .before .before .before .before .before .batch .given .1) .1
+print-clauses-requires c κs =
+    let b = c .before .before .before .before .before .before .before .before in
+    table-rows (sheet-accepted _ _ _ (b .before .before .read-sheet .ensures) _ _ _ (b .batch .given .1) .1)
 
 enum-known-refusal : tie.Need-enum-known-refusal
 enum-known-refusal c = search needs
@@ -75,6 +77,7 @@ pub print-reading-spec : {M : Type 1} → statement M
 print-reading-spec =
     tie.close
     (tie.spec
+    empty-table-requires
     read-sheet-requires
     enum-known-batch
     slice-aggregate-print-field
@@ -85,7 +88,6 @@ print-reading-spec =
     print-field-requires-2
     slice-aggregate-print-field-3
     print-field-requires-3
-    slice-aggregate-print-clauses
     print-clauses-requires
     enum-known-refusal
     slice-aggregate-print-field-4

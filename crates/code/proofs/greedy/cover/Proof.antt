@@ -1,4 +1,5 @@
--- `code::cover` lets the word w join. The invariant: the flags around w are cleared for the words passed, and the gains count the others.
+-- `code::cover` lets the word w join. The invariant: the flags around w are cleared for the words passed, and the gains count the
+-- others.
 use mathlib.Core.Logic.{⊎-elim}
 use Prim.Native.Nat.{_-_, _<_}
 use lib.ListN.{length}
@@ -33,7 +34,8 @@ slice-write-left c = in-range (c .before .before)
 
 lower-requires : tie.Need-lower-requires Inv-loop μ-loop
 lower-requires c κs =
-    flag-lowers (c .before .before .before .before .before .loop .inv .counts) (in-range (c .before .before .before)) (c .before .if1 .taken)
+    let r = c .before .before .before in
+    flag-lowers (r .before .before .loop .inv .counts) (in-range r) (c .before .if1 .taken)
 
 add-j : tie.Need-add-j Inv-loop μ-loop
 add-j c = search needs
@@ -44,9 +46,12 @@ loop-less c = search needs
 loop-again : tie.Need-loop-again Inv-loop μ-loop
 loop-again c =
     let r = c .before .before in
+    let inv = r .before .before .loop .inv in
+    let inside = r .before .loop-test .taken in
+    let word = r .before .before .before .before .before .before .pre .1 in
     ⊎-elim
-    (λ w. rw (w .5, w .6) (join-set (r .before .before .loop .inv) (r .before .loop-test .taken) (r .reach .ensures) (r .before .before .before .before .before .before .pre .1) (w .0 .taken) (w .2 .ensures)))
-    (λ w. rw (w .1, w .2) (join-clear (r .before .before .loop .inv) (r .before .loop-test .taken) (r .reach .ensures) (r .before .before .before .before .before .before .pre .1) (w .0 .left)))
+    (λ w. rw (w .5, w .6) (join-set inv inside (r .reach .ensures) word (w .0 .taken) (w .2 .ensures)))
+    (λ w. rw (w .1, w .2) (join-clear inv inside (r .reach .ensures) word (w .0 .left)))
     (c .if1 .came)
 
 same-length : tie.Need-same-length Inv-loop μ-loop

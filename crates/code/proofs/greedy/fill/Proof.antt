@@ -47,7 +47,9 @@ array-borrow-prefix-gain-cells : tie.Need-array-borrow-prefix-gain-cells Inv-loo
 array-borrow-prefix-gain-cells c = search needs
 
 slice-aggregate-gains : tie.Need-slice-aggregate-gains Inv-loop μ-loop
-slice-aggregate-gains c = sym (part-length 4096 _ _ (c .before .repeated2 .ensures .1) (c .before .before .before .before .before .before .before .power .ensures .1))
+slice-aggregate-gains c =
+    let size = c .before .before .before .before .before .before .before .power in
+    sym (part-length 4096 _ _ (c .before .repeated2 .ensures .1) (size .ensures .1))
 
 raised-requires : tie.Need-raised-requires Inv-loop μ-loop
 raised-requires c κs = search needs
@@ -56,29 +58,40 @@ array-borrow-prefix-flag-cells : tie.Need-array-borrow-prefix-flag-cells Inv-loo
 array-borrow-prefix-flag-cells c = search needs
 
 slice-aggregate-left : tie.Need-slice-aggregate-left Inv-loop μ-loop
-slice-aggregate-left c = sym (part-length 4096 _ _ (c .before .raised .ensures) (c .before .before .before .before .before .before .before .before .before .power .ensures .1))
+slice-aggregate-left c =
+    let size = c .before .before .before .before .before .before .before .before .before .power in
+    sym (part-length 4096 _ _ (c .before .raised .ensures) (size .ensures .1))
 
 loop-holds : tie.Need-loop-holds Inv-loop μ-loop
 unfolding ballOf wordsOf
 loop-holds c =
     let listing = c .before .before .before .before .before .before in
-    let size = listing .before .before .before .power in
+    let power = listing .before .before .before .power in
     let start = listing .before .before .before .before .before in
-    let e : size .result ≡ 2 ^ start .args .t = size .ensures .0 in
-    grow-start (rw (← e) (size .ensures .1)) (start .pre .1) (rw e at (listing .list-ball .ensures .1))
-    (part-length 4096 _ _ (c .before .before .before .repeated2 .ensures .1) (size .ensures .1) ∙ e)
-    (part-length 4096 _ _ (c .before .raised .ensures) (size .ensures .1) ∙ e)
-    (λ w l. part-at 4096 _ _ (c .before .before .before .repeated2 .ensures .1) (size .ensures .1) 0 w (rw e l) ∙ sym (length-take-le _ _ (listing .list-ball .ensures .0)))
-    (λ x l. part-at 4096 _ _ (c .before .raised .ensures) (size .ensures .1) _ x (rw e l))
+    let gains = c .before .before .before .repeated2 .ensures .1 in
+    let flags = c .before .raised .ensures in
+    let words : power .result ≡ 2 ^ start .args .t = power .ensures .0 in
+    let small = power .ensures .1 in
+    let size = length-take-le _ _ (listing .list-ball .ensures .0) in
+    grow-start (rw (← words) small) (start .pre .1) (rw words at (listing .list-ball .ensures .1))
+    (part-length 4096 _ _ gains small ∙ words)
+    (part-length 4096 _ _ flags small ∙ words)
+    (λ w l. part-at 4096 _ _ gains small 0 w (rw words l) ∙ sym size)
+    (λ x l. part-at 4096 _ _ flags small _ x (rw words l))
 
 best-requires : tie.Need-best-requires Inv-loop μ-loop
 best-requires c κs = let g = c .before .loop .inv in rw (g .counts .size, g .words) (pow-pos _)
 
-in-range : (c : tie.After-best Inv-loop μ-loop) → c .best .result < length (c .before .before .loop .gains)
-in-range c = let g = c .before .before .loop .inv in rw (g .counts .size) (grow-lt g (c .best .ensures))
+-- the word chosen is a place of the gains, of which there are few
+module _ (c : tie.After-best Inv-loop μ-loop) where
+  in-range : c .best .result < length (c .before .before .loop .gains)
+  in-range = let g = c .before .before .loop .inv in rw (g .counts .size) (grow-lt g (c .best .ensures))
+
+  small : c .best .result < 4096
+  small = let g = c .before .before .loop .inv in omega (arith, in-range, g .small, g .words, g .counts .size)
 
 mul-if1 : tie.Need-mul-if1 Inv-loop μ-loop
-mul-if1 c = omega (arith, in-range c, c .before .before .loop .inv .small, c .before .before .loop .inv .words, c .before .before .loop .inv .counts .size)
+mul-if1 c = omega (arith, small c)
 
 slice-read-if1 : tie.Need-slice-read-if1 Inv-loop μ-loop
 slice-read-if1 c = in-range (c .before)
@@ -92,13 +105,14 @@ returns c =
     grow-end (b .before .before .loop .inv) (b .best .ensures) (c .before .before .if1 .taken)
 
 cast-table : tie.Need-cast-table Inv-loop μ-loop
-cast-table c = omega (arith, in-range (c .before .before), c .before .before .before .before .loop .inv .small, c .before .before .before .before .loop .inv .words, c .before .before .before .before .loop .inv .counts .size)
+cast-table c = omega (arith, small (c .before .before))
 
 mul-table : tie.Need-mul-table Inv-loop μ-loop
 mul-table c = search needs
 
 slice-write-table : tie.Need-slice-write-table Inv-loop μ-loop
-slice-write-table c = grow-fits (c .before .before .before .before .loop .inv) (c .before .before .best .ensures) (pos-of-ne-zero (c .if1 .left))
+slice-write-table c =
+    grow-fits (c .before .before .before .before .loop .inv) (c .before .before .best .ensures) (pos-of-ne-zero (c .if1 .left))
 
 add-count : tie.Need-add-count Inv-loop μ-loop
 add-count c = search needs
@@ -112,13 +126,15 @@ cover-requires c κs =
 loop-less : tie.Need-loop-less Inv-loop μ-loop
 loop-less c =
     let e = c .before .before .before .before .before .before .before in
-    omega (arith, grow-room (e .before .before .before .before .loop .inv) (e .before .before .best .ensures) (pos-of-ne-zero (e .if1 .left)))
+    let inv = e .before .before .before .before .loop .inv in
+    omega (arith, grow-room inv (e .before .before .best .ensures) (pos-of-ne-zero (e .if1 .left)))
 
 loop-again : tie.Need-loop-again Inv-loop μ-loop
 loop-again c =
     let called = c .before .before .before .before .cover in
     let e = c .before .before .before .before .before .before .before in
-    grow-next (e .before .before .before .before .loop .inv) (e .before .before .best .ensures) (pos-of-ne-zero (e .if1 .left))
+    let inv = e .before .before .before .before .loop .inv in
+    grow-next inv (e .before .before .best .ensures) (pos-of-ne-zero (e .if1 .left))
     (called .ensures .0) (called .ensures .1) (called .kept .1 .1 .0)
 
 pub fill-spec : {M : Type 1} → statement M

@@ -12,7 +12,8 @@ use Rattle.code.proofs.greedy.list_ball.Statement.{statement}
 use Rattle.code.proofs.greedy.list_ball.Tie as tie
 
 abbrev Inv-loop : tie.InvT-loop
-Inv-loop ball₀ n s m₀ x₀ ball m x = (x ≤ n) × (m ≤ x) × (length ball ≡ length ball₀) × (take m ball ≡ keep (near s 0) (span 0 x))
+Inv-loop ball₀ n s m₀ x₀ ball m x =
+    (x ≤ n) × (m ≤ x) × (length ball ≡ length ball₀) × (take m ball ≡ keep (near s 0) (span 0 x))
 
 abbrev μ-loop : tie.MeasureT-loop
 μ-loop ball₀ n s m₀ x₀ ball m x = n - x
@@ -43,8 +44,18 @@ loop-again : tie.Need-loop-again Inv-loop μ-loop
 loop-again c =
     let l = c .before .before .loop in
     ⊎-elim
-    (λ w. (omega arith, omega arith, ap length (w .1) ∙ simp length-set (l .inv .2), rw (w .1, w .2) (ball-next _ (l .x) (l .ball) (l .m) (omega arith) (w .0 .taken) (l .inv .3))))
-    (λ w. (omega arith, omega arith, ap length (w .1) ∙ l .inv .2, rw (w .1, w .2, ball-skip _ (l .x) (w .0 .left)) (l .inv .3)))
+    (λ w. (
+      omega arith,
+      omega arith,
+      ap length (w .1) ∙ simp length-set (l .inv .2),
+      rw (w .1, w .2) (ball-next _ (l .x) (l .ball) (l .m) (omega arith) (w .0 .taken) (l .inv .3)),
+    ))
+    (λ w. (
+      omega arith,
+      omega arith,
+      ap length (w .1) ∙ l .inv .2,
+      rw (w .1, w .2, ball-skip _ (l .x) (w .0 .left)) (l .inv .3),
+    ))
     (c .if1 .came)
 
 same-length : tie.Need-same-length Inv-loop μ-loop

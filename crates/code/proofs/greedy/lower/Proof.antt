@@ -21,9 +21,10 @@ loop-holds c = (zero-le, lower-start _ _)
 reach-requires : tie.Need-reach-requires Inv-loop μ-loop
 reach-requires c κs = search needs
 
-in-range : (c : tie.After-reach Inv-loop μ-loop) → c .reach .result < length (c .before .before .loop .gains)
-in-range c =
-    lower-lt (c .before .before .before .before .before .pre) (c .before .loop-test .taken) (c .reach .ensures) (c .before .before .loop .inv .1)
+in-range : (r : tie.After-reach Inv-loop μ-loop) → r .reach .result < length (r .before .before .loop .gains)
+in-range r =
+    let able = r .before .before .before .before .before .pre in
+    lower-lt able (r .before .loop-test .taken) (r .reach .ensures) (r .before .before .loop .inv .1)
 
 mul-gains : tie.Need-mul-gains Inv-loop μ-loop
 mul-gains c = omega (arith, in-range c)
@@ -34,7 +35,8 @@ slice-read-gains c = in-range (c .before)
 sub-gains : tie.Need-sub-gains Inv-loop μ-loop
 sub-gains c =
     let r = c .before in
-    lower-pos (r .before .before .before .before .before .pre) (r .before .loop-test .taken) (r .reach .ensures) (r .before .before .loop .inv .1)
+    let able = r .before .before .before .before .before .pre in
+    lower-pos able (r .before .loop-test .taken) (r .reach .ensures) (r .before .before .loop .inv .1)
 
 slice-write-gains : tie.Need-slice-write-gains Inv-loop μ-loop
 slice-write-gains c = in-range (c .before)
@@ -48,13 +50,16 @@ loop-less c = search needs
 loop-again : tie.Need-loop-again Inv-loop μ-loop
 loop-again c =
     let r = c .before in
-    (search needs, lower-next (r .before .before .before .before .before .pre) (r .before .loop-test .taken) (r .reach .ensures) (r .before .before .loop .inv .1))
+    let able = r .before .before .before .before .before .pre in
+    (search needs, lower-next able (r .before .loop-test .taken) (r .reach .ensures) (r .before .before .loop .inv .1))
 
 same-length : tie.Need-same-length Inv-loop μ-loop
 same-length c = c .before .loop .inv .1 .size
 
 returns : tie.Need-returns Inv-loop μ-loop
-returns c = rw (take-all (c .before .loop .j) (c .before .before .before .before .args .ball .now) (omega arith)) at (c .before .loop .inv .1)
+returns c =
+    let ball = c .before .before .before .before .args .ball .now in
+    rw (take-all (c .before .loop .j) ball (omega arith)) at (c .before .loop .inv .1)
 
 pub lower-spec : {M : Type 1} → statement M
 lower-spec =

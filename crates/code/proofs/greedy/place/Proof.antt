@@ -26,7 +26,8 @@ shared-slice-read-if1 c = search needs
 
 returns : tie.Need-returns Inv-loop μ-loop
 returns c b l q below =
-    first-same (λ (u : ℕ). getD (c .before .before .before .before .args .gains .now) u 0) _ _ b (c .if1 .taken) (c .before .before .before .loop .inv .1) q below
+    let gains = c .before .before .before .before .args .gains .now in
+    first-same (λ (u : ℕ). getD gains u 0) _ _ b (c .if1 .taken) (c .before .before .before .loop .inv .1) q below
 
 add-w : tie.Need-add-w Inv-loop μ-loop
 add-w c = search needs

@@ -1,5 +1,5 @@
 -- `Planes::moved` meets its contract: each lane is four digits that `number-moves` counts up or down.
-use Rattle.planes.specs.Planes.{countIn}
+use Rattle.planes.specs.Machine.{countIn}
 use Rattle.planes.specs.LaneLaws.{bit-xor, bit-and}
 use Rattle.planes.specs.PlaneLaws.{number-moves}
 use Rattle.planes.proofs.Planes.moved.Statement.{statement}

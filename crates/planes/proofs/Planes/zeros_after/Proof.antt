@@ -2,7 +2,7 @@
 use mathlib.Core.Path.{_∙_}
 use native.Mathlib.Omega.{arith}
 use Rattle.words.specs.Bits.{bit}
-use Rattle.planes.specs.Planes.{countIn}
+use Rattle.planes.specs.Machine.{countIn}
 use Rattle.planes.specs.LaneLaws.{bit-xor, bit-or}
 use Rattle.planes.specs.PlaneLaws.{zero-moves}
 use Rattle.planes.proofs.Planes.zeros_after.Statement.{statement}
@@ -15,10 +15,12 @@ returns : tie.Need-returns
 unfolding countIn
 returns c =
     let start = c .before .before .args in
+    let p = start .self in
     record {
       each = λ j n l a h.
           c .zeros .ensures j l
-          ∙ rw (bit-or, bit-xor) (zero-moves (bit (start .self .p0) j) (bit (start .self .p1) j) (bit (start .self .p2) j) (bit (start .self .p3) j) (bit (start .up) j) (bit (start .down) j) n a h);
+          ∙ rw (bit-or, bit-xor)
+          (zero-moves (bit (p .p0) j) (bit (p .p1) j) (bit (p .p2) j) (bit (p .p3) j) (bit (start .up) j) (bit (start .down) j) n a h);
     }
 
 pub zeros-after-spec : {M : Type 1} → statement M

@@ -1,25 +1,25 @@
--- The proof of the cycle of calls {attempt, call, literals}: a call, the literals that it tries and the call for one literal give what the
--- definition gives, cut at the budget. The measure combines the flips left and the literals left: ten for each flip, for a call nine more, and
--- for its at most eight literals one more for each literal left; each literal tried makes a call with one flip less.
-use mathlib.Core.Path.{_≡_, refl, sym, ap, _∙_, subst}
-use mathlib.Core.Logic.{⊎-elim}
-use mathlib.Core.List.{[], _∷_}
+-- The proof of the cycle of calls {attempt, call, literals}: a call, the literals that it tries and the call for one literal give
+-- what the definition gives, cut at the budget. The measure combines the flips left and the literals left: ten for each flip, for a
+-- call nine more, and for its at most eight literals one more for each literal left; each literal tried makes a call with one flip
+-- less.
+use mathlib.Core.Path.{_≡_, refl, sym, ap, _∙_}
+use mathlib.Core.Bool.{true}
 use Prim.Native.Nat.{ℕ, _+_, _-_, _*_, _≤_, _<_}
 use native.Mathlib.Nat.{pos-of-ne-zero}
 use native.Mathlib.Omega.{arith}
+use borrow.Author.Tests.{not-true, not-false, leb-true, leb-false}
+use borrow.Author.Needs.{needs}
 use borrow.Fn.Kinds.{In}
 use borrow.Fn.PlainCycle.{Measures, is, falls, and}
-use types.Run.{OneOf}
-use denote.Enum.Declared.{tagOf}
-use Rattle.search.specs.declared.ball.Found.{Found}
-use Rattle.search.proofs.ball.Found.{the-type}
-use Rattle.words.specs.Value.{value}
-use Rattle.formula.specs.Table.{lengthAt, literalAt}
-use Rattle.planes.specs.Counts.{FirstFalse}
-use Rattle.search.specs.Explore.{State, flip}
-use Rattle.search.specs.Run.{settle}
-use Rattle.search.specs.Machine.{answerIn, stateIn, callFrom}
-use Rattle.search.specs.MachineLaws.{in-spent, in-clear, in-none, in-literals, in-false, in-end, in-flipped, trying-room, trying-short, trying-left, trying-end, trying-cons, trying-known, trying-attempt, trying-next, trying-none, trying-made, trying-stops, attempt-flip}
+use Rattle.formula.specs.Machine.{held, lengthAt, literalAt}
+use Rattle.formula.specs.Formula.{literalOf}
+use Rattle.search.specs.Ball.{State, flip, isTried, skip}
+use Rattle.tree.specs.Budget.{Answer}
+use Rattle.tree.specs.BudgetLaws.{settle}
+use Rattle.tree.specs.Machine.{answerIn}
+use Rattle.search.specs.Machine.{stateIn, Chosen, Tryable, callFrom, attemptFrom}
+use Rattle.search.specs.MachineLaws.{in-spent, in-clear, in-none, in-literals, in-end, in-passed, in-tried, trying-row, trying-left, trying-end, trying-attempt, trying-next, trying-none, trying-made, trying-stops, attempt-tryable, not-none}
+use Rattle.search.specs.CountLaws.{flip-shows}
 use Rattle.search.proofs.ball.attempt.Reads as attempt
 use Rattle.search.proofs.ball.attempt.Kinds as attempt-kinds
 use Rattle.search.proofs.ball.+attempt+call+literals.Lts-attempt as attempt-lts
@@ -31,9 +31,12 @@ use Rattle.search.proofs.ball.literals.Reads as literals
 use Rattle.search.proofs.ball.literals.Kinds as literals-kinds
 use Rattle.search.proofs.ball.+attempt+call+literals.Lts-literals as literals-lts
 use Rattle.search.proofs.ball.Path.flip.Reads as ball-Path-flip-reads
-use Rattle.search.proofs.ball.Path.is_flipped.Reads as is-flipped-reads
-use Rattle.planes.proofs.first_false.Reads as first-false-reads
-use Rattle.planes.proofs.flip.Reads as planes-flip-reads
+use Rattle.formula.proofs.length_at.Reads as length-at-reads
+use Rattle.formula.proofs.literal_at.Reads as literal-at-reads
+use Rattle.search.proofs.ball.Path.tries.Reads as tries-reads
+use Rattle.tree.proofs.exhausted.Reads as exhausted-reads
+use Rattle.search.proofs.counts.choose.Reads as choose-reads
+use Rattle.search.proofs.counts.flip.Reads as counts-flip-reads
 use Rattle.search.proofs.ball.+attempt+call+literals.{statement}
 use Rattle.search.proofs.ball.+attempt+call+literals.Tie.{close}
 
@@ -41,7 +44,8 @@ abbrev μ-call : Measures 3 call-kinds.ps ℕ
 μ-call κs a = a .1 .1 .1 .1 .1 .0 * 10 + 9
 
 abbrev μ-literals : Measures 4 literals-kinds.ps ℕ
-μ-literals κs a = a .1 .1 .1 .1 .1 .1 .1 .1 .0 * 10 + (lengthAt (a .0 .now) (a .1 .1 .1 .1 .1 .1 .0) - a .1 .1 .1 .1 .1 .1 .1 .0)
+μ-literals κs a =
+    a .1 .1 .1 .1 .1 .1 .1 .1 .0 * 10 + (lengthAt (a .0 .now) (a .1 .1 .1 .1 .1 .1 .0) - a .1 .1 .1 .1 .1 .1 .1 .0)
 
 abbrev μ-attempt : Measures 4 attempt-kinds.ps ℕ
 μ-attempt κs a = a .1 .1 .1 .1 .1 .1 .1 .0 * 10
@@ -66,208 +70,293 @@ literals-below t = and 4 literals-kinds.ps (falls 4 literals-kinds.ps _<_ μ-lit
 
 -- what each may take for granted of the functions that it calls
 abbrev call-claims : ℕ → call-lts.Claims
-call-claims t = (first-false-reads.Asked, first-false-reads.Learnt, literals-below t, literals.Post)
+call-claims t = (
+  exhausted-reads.Asked,
+  exhausted-reads.Learnt,
+  choose-reads.Asked,
+  choose-reads.Learnt,
+  literals-below t,
+  literals.Post,
+)
 
 abbrev literals-claims : ℕ → literals-lts.Claims
-literals-claims t = (is-flipped-reads.Asked, is-flipped-reads.Learnt, literals-below t, literals.Post, attempt-below t, attempt.Post)
+literals-claims t = (
+  length-at-reads.Asked,
+  length-at-reads.Learnt,
+  literal-at-reads.Asked,
+  literal-at-reads.Learnt,
+  attempt-below t,
+  attempt.Post,
+  literals-below t,
+  literals.Post,
+)
 
 abbrev attempt-claims : ℕ → attempt-lts.Claims
-attempt-claims t =
-    (last-call-reads.Asked, last-call-reads.Learnt, planes-flip-reads.Asked, planes-flip-reads.Learnt, ball-Path-flip-reads.Asked, ball-Path-flip-reads.Learnt, call-below t, call.Post)
+attempt-claims t = (
+  tries-reads.Asked,
+  tries-reads.Learnt,
+  last-call-reads.Asked,
+  last-call-reads.Learnt,
+  counts-flip-reads.Asked,
+  counts-flip-reads.Learnt,
+  ball-Path-flip-reads.Asked,
+  ball-Path-flip-reads.Learnt,
+  call-below t,
+  call.Post,
+)
 
 -- ---- a call
 
 module _ (t : ℕ) where
+  call-exhausted-requires : call-lts.Need-exhausted-requires (call-claims t) (call-at t) call.Post
+  call-exhausted-requires c κs = search needs
+
   call-returns : call-lts.Need-returns (call-claims t) (call-at t) call.Post
   unfolding answerIn
   call-returns c =
-      let a = c .before .args in
-      sym (in-spent (a .k) (a .cells .now) (a .left) (stateIn (a .at)) (a .budget) (a .calls) (c .if1 .taken))
+      let none-left = leb-true _ _ (sym (c .before .exhausted .ensures) ∙ c .if1 .taken) in
+      sym (in-spent _ _ _ _ _ _ none-left)
 
-  call-first-false-requires : call-lts.Need-first-false-requires (call-claims t) (call-at t) call.Post
-  call-first-false-requires c κs = c .before .pre .1 .0 .table .room
+  -- a call is left
+  enough : (c : call-lts.Else1 (call-claims t) (call-at t) call.Post) →
+      let a = c .before .before .args in a .calls < a .budget
+  enough c = leb-false _ _ (sym (c .before .exhausted .ensures) ∙ c .if1 .left)
 
-  -- what the first false clause's number says
-  first : (c : call-lts.After-first-false (call-claims t) (call-at t) call.Post) → FirstFalse (c .before .before .args .k) (c .before .before .args .cells .now) (value (c .before .before .args .at .assignment)) (c .first-false .result)
-  first c = c .first-false .ensures (c .before .before .args .cells .now) (value (c .before .before .args .at .assignment)) (c .before .before .pre .1 .1)
+  call-choose-requires : call-lts.Need-choose-requires (call-claims t) (call-at t) call.Post
+  call-choose-requires c κs = c .before .before .pre .1 .0 .table .room
 
-  call-add-t13 : call-lts.Need-add-t13 (call-claims t) (call-at t) call.Post
-  call-add-t13 c = omega (arith, c .before .before .before .before .fits .budget)
+  -- what the number of the chosen clause says
+  first : (c : call-lts.After-choose (call-claims t) (call-at t) call.Post) →
+      let a = c .before .before .before .args in Chosen (a .k) (a .cells .now) (stateIn (a .at)) (c .choose .result)
+  first c = c .choose .ensures _ _ (c .before .before .before .pre .1 .1)
+
+  call-add-t14 : call-lts.Need-add-t14 (call-claims t) (call-at t) call.Post
+  call-add-t14 c = omega (arith, enough (c .before .before .before))
 
   call-returns-2 : call-lts.Need-returns-2 (call-claims t) (call-at t) call.Post
   unfolding answerIn stateIn
   call-returns-2 c =
-      let a = c .before .before .before .before .args in
-      sym (in-clear (a .k) (a .cells .now) (a .left) (stateIn (a .at)) (a .budget) (a .calls) (c .before .before .first-false .result) (c .before .before .before .if1 .left) (first (c .before .before)) (c .before .if2 .taken))
+      let chosen = c .before .before in
+      sym (in-clear _ _ _ _ _ _ (chosen .choose .result) (enough (chosen .before)) (first chosen) (c .before .if2 .taken))
 
-  call-add-t14 : call-lts.Need-add-t14 (call-claims t) (call-at t) call.Post
-  call-add-t14 c = omega (arith, c .before .before .before .before .fits .budget)
+  call-add-t15 : call-lts.Need-add-t15 (call-claims t) (call-at t) call.Post
+  call-add-t15 c = omega (arith, enough (c .before .before .before))
 
   call-returns-3 : call-lts.Need-returns-3 (call-claims t) (call-at t) call.Post
   unfolding answerIn stateIn
   call-returns-3 c =
-      let a = c .before .before .before .before .args in
-      sym (in-none (a .k) (a .cells .now) (a .left) (stateIn (a .at)) (a .budget) (a .calls) (c .before .before .first-false .result) (c .before .before .before .if1 .left) (first (c .before .before)) (c .before .if2 .left) (c .if3 .taken))
+      let chosen = c .before .before in
+      sym (in-none _ _ _ _ _ _ (chosen .choose .result) (enough (chosen .before)) (first chosen) (c .before .if2 .left) (c .if3 .taken))
 
   call-add-literals : call-lts.Need-add-literals (call-claims t) (call-at t) call.Post
-  call-add-literals c = omega (arith, c .before .before .before .before .before .fits .budget)
+  call-add-literals c = omega (arith, enough (c .before .before .before .before))
 
   call-literals-requires : call-lts.Need-literals-requires (call-claims t) (call-at t) call.Post
   unfolding stateIn
   call-literals-requires c κs =
-      let s = c .before .before .before .before .before in
-      let r = c .before .before .before .first-false .result in
-      let f = first (c .before .before .before) in
+      let chosen = c .before .before .before in
+      let s = chosen .before .before .before in
+      let r = chosen .choose .result in
+      let f = first chosen in
       let inside : r < s .args .k = omega (arith, f .within, c .before .before .if2 .left) in
-      let enough = c .before .before .before .before .if1 .left in
       let some : 0 < s .args .left = pos-of-ne-zero (c .before .if3 .left) in
-      let short : lengthAt (s .args .cells .now) r ≤ 8 = s .pre .1 .0 .table .short r inside in
-      let is-false = in-false (s .args .k) (s .args .cells .now) (s .args .left) (stateIn (s .args .at)) (s .args .budget) (s .args .calls) r enough f (c .before .before .if2 .left) in (
+      let short : lengthAt (s .args .cells .now) r ≤ 8 = s .pre .1 .0 .table .short r inside in (
         omega (arith, s .pre .0),
-        (record { ready = s .pre .1 .0; counts = s .pre .1 .1; inside = inside; falsified = is-false; flips = some; enough = omega arith; more = omega arith }, refl),
+        (
+          record {
+            ready = s .pre .1 .0;
+            shows = s .pre .1 .1;
+            inside = inside;
+            failing = f .failing inside;
+            flips = some;
+            enough = omega (arith, enough (chosen .before));
+            more = omega arith;
+          },
+          refl,
+        ),
       )
 
   call-returns-4 : call-lts.Need-returns-4 (call-claims t) (call-at t) call.Post
   unfolding stateIn
   call-returns-4 c =
-      let s = c .before .before .before .before .before .before in
-      let r = c .before .before .before .before .first-false .result in
+      let chosen = c .before .before .before .before in
+      let more = c .before .before .before .if2 .left in
+      let flips = c .before .before .if3 .left in
       c .literals .ensures
-      ∙ sym (in-literals (s .args .k) (s .args .cells .now) (s .args .left) (stateIn (s .args .at)) (s .args .budget) (s .args .calls) r (c .before .before .before .before .before .if1 .left) (first (c .before .before .before .before)) (c .before .before .before .if2 .left) (c .before .before .if3 .left))
+      ∙ sym (in-literals _ _ _ _ _ _ (chosen .choose .result) (enough (chosen .before)) (first chosen) more flips)
 
 -- ---- its literals
 
 module _ (t : ℕ) where
-  literals-mul-start : literals-lts.Need-mul-start (literals-claims t) (literals-at t) literals.Post
-  literals-mul-start c = omega (arith, trying-room (c .pre .1 .0))
-
-  literals-mul-length : literals-lts.Need-mul-length (literals-claims t) (literals-at t) literals.Post
-  literals-mul-length c = omega (arith, trying-room (c .pre .1 .0))
-
-  literals-element-copy-out-length : literals-lts.Need-element-copy-out-length (literals-claims t) (literals-at t) literals.Post
-  literals-element-copy-out-length c = omega (arith, trying-room (c .pre .1 .0))
+  literals-length-at-requires : literals-lts.Need-length-at-requires (literals-claims t) (literals-at t) literals.Post
+  literals-length-at-requires c κs = trying-row (c .pre .1 .0) .inside
 
   literals-returns : literals-lts.Need-returns (literals-claims t) (literals-at t) literals.Post
-  unfolding answerIn lengthAt
+  unfolding answerIn
   literals-returns c =
       let s = c .before .before in
-      sym (rw (trying-end (s .pre .1 .0) (c .if1 .taken)) (in-end (s .args .k) (s .args .cells .now) (s .args .left) (stateIn (s .args .at)) (s .args .budget) (s .args .calls) (s .pre .1 .0 .enough)))
+      let end = trying-end (s .pre .1 .0) (c .if1 .taken ∙ c .before .length-at .ensures) in
+      sym (rw end (in-end _ _ _ _ _ _ (s .pre .1 .0 .enough)))
 
-  literals-add-literal : literals-lts.Need-add-literal (literals-claims t) (literals-at t) literals.Post
-  literals-add-literal c = omega (arith, trying-room (c .before .before .pre .1 .0), trying-short (c .before .before .pre .1 .0), c .before .before .pre .1 .0 .more)
+  -- there is a literal j
+  module _ (c : literals-lts.Else1 (literals-claims t) (literals-at t) literals.Post) where
+    more : let a = c .before .before .args in a .j ≡ lengthAt (a .cells .now) (a .clause) → ⊥
+    more e = c .if1 .left (e ∙ sym (c .before .length-at .ensures))
 
-  literals-add-literal-2 : literals-lts.Need-add-literal-2 (literals-claims t) (literals-at t) literals.Post
-  literals-add-literal-2 c = omega (arith, trying-room (c .before .before .pre .1 .0), trying-short (c .before .before .pre .1 .0), c .before .before .pre .1 .0 .more)
+    left-over : let a = c .before .before .args in a .j < lengthAt (a .cells .now) (a .clause)
+    left-over = trying-left (c .before .before .pre .1 .0) more
 
-  literals-mul-literal : literals-lts.Need-mul-literal (literals-claims t) (literals-at t) literals.Post
-  literals-mul-literal c = omega (arith, trying-room (c .before .before .pre .1 .0), trying-short (c .before .before .pre .1 .0), c .before .before .pre .1 .0 .more)
-
-  literals-element-copy-out-literal : literals-lts.Need-element-copy-out-literal (literals-claims t) (literals-at t) literals.Post
-  unfolding lengthAt
-  literals-element-copy-out-literal c =
-      let t′ = c .before .before .pre .1 .0 in
-      omega (arith, trying-room t′, trying-short t′, trying-left t′ (c .if1 .left))
-
-  literals-is-flipped-requires : literals-lts.Need-is-flipped-requires (literals-claims t) (literals-at t) literals.Post
-  unfolding lengthAt literalAt
-  literals-is-flipped-requires c κs = trying-known (c .before .before .before .pre .1 .0) (c .before .if1 .left)
-
-  literals-add-literals : literals-lts.Need-add-literals (literals-claims t) (literals-at t) literals.Post
-  literals-add-literals c = omega (arith, trying-short (c .before .before .before .before .before .before .pre .1 .0), c .before .before .before .before .before .before .pre .1 .0 .more)
-
-  literals-literals-requires : literals-lts.Need-literals-requires (literals-claims t) (literals-at t) literals.Post
-  unfolding lengthAt
-  literals-literals-requires c κs =
-      let s = c .before .before .before .before .before .before in
-      let t′ = s .pre .1 .0 in
-      let more = trying-left t′ (c .before .before .before .before .if1 .left) in
-      (omega (arith, s .pre .0, more), (trying-next t′ (c .before .before .before .before .if1 .left) (s .args .calls) (t′ .enough), s .pre .1 .1))
-
-  literals-returns-2 : literals-lts.Need-returns-2 (literals-claims t) (literals-at t) literals.Post
-  unfolding lengthAt literalAt
-  literals-returns-2 c =
-      let s = c .before .before .before .before .before .before .before in
-      let flipped = sym (c .before .before .before .is-flipped .ensures) ∙ c .before .before .if2 .taken in
-      c .literals .ensures
-      ∙ sym (rw (trying-cons (s .pre .1 .0) (c .before .before .before .before .before .if1 .left)) (in-flipped (s .args .k) (s .args .cells .now) (s .args .left) (stateIn (s .args .at)) (s .args .budget) (s .args .calls) _ _ flipped))
+  literals-literal-at-requires : literals-lts.Need-literal-at-requires (literals-claims t) (literals-at t) literals.Post
+  literals-literal-at-requires c κs =
+      let row = trying-row (c .before .before .pre .1 .0) in
+      (row .inside, omega (arith, row .short, left-over c))
 
   literals-attempt-requires : literals-lts.Need-attempt-requires (literals-claims t) (literals-at t) literals.Post
-  unfolding lengthAt literalAt
   literals-attempt-requires c κs =
-      let s = c .before .before .before .before .before .before in
-      let more = trying-left (s .pre .1 .0) (c .before .before .before .before .if1 .left) in
-      (omega (arith, s .pre .0, more), (trying-attempt (s .pre .1 .0) (c .before .before .before .before .if1 .left), s .pre .1 .1))
-
-  literals-enum-known-below : literals-lts.Need-enum-known-below (literals-claims t) (literals-at t) literals.Post
-  literals-enum-known-below c = c .match .keys1
-
-  literals-returns-3 : literals-lts.Need-returns-3 (literals-claims t) (literals-at t) literals.Post
-  unfolding lengthAt literalAt
-  literals-returns-3 c =
-      let s = c .before .before .before .before .before .before .before .before in
-      sym (trying-stops (s .pre .1 .0) (c .before .before .before .before .before .before .if1 .left) (stateIn (s .args .at)) (c .before .attempt .result) (sym (c .before .before .before .before .is-flipped .ensures) ∙ c .before .before .before .if2 .left) (c .before .attempt .ensures .0)
-      (λ made e. ⊎-elim (λ (z : 1 ≡ 0). omega arith) (λ (z : 1 ≡ 2). omega arith) (subst (λ (r : Found). OneOf (0 ∷ 2 ∷ []) (tagOf the-type r)) e (c .match .keys2))))
-
-  literals-add-literals-2 : literals-lts.Need-add-literals-2 (literals-claims t) (literals-at t) literals.Post
-  literals-add-literals-2 c =
-      let t′ = c .before .before .before .before .before .before .before .before .before .before .before .pre .1 .0 in
-      omega (arith, trying-short t′, t′ .more)
-
-  literals-literals-requires-2 : literals-lts.Need-literals-requires-2 (literals-claims t) (literals-at t) literals.Post
-  unfolding lengthAt literalAt
-  literals-literals-requires-2 c κs =
-      let s = c .before .before .before .before .before .before .before .before .before .before .before in
-      let e = c .before .before .below .given in (
-        omega (arith, s .pre .0, trying-left (s .pre .1 .0) (c .before .before .before .before .before .before .before .before .before .if1 .left)),
-        (trying-next (s .pre .1 .0) (c .before .before .before .before .before .before .before .before .before .if1 .left) _ (trying-made (s .pre .1 .0) (c .before .before .before .before .before .before .before .before .before .if1 .left) (stateIn (s .args .at)) (c .before .before .before .before .attempt .result) (sym (c .before .before .before .before .before .before .before .is-flipped .ensures) ∙ c .before .before .before .before .before .before .if2 .left) (c .before .before .before .before .attempt .ensures .0) (e .0 .0) (e .1)), c .before .before .before .before .attempt .ensures .1),
+      let d = c .before .before in
+      let s = d .before .before in (
+        omega (arith, s .pre .0, left-over d),
+        (rw (c .before .literal-at .ensures) (trying-attempt (s .pre .1 .0) (more d)), s .pre .1 .1),
       )
 
-  literals-returns-4 : literals-lts.Need-returns-4 (literals-claims t) (literals-at t) literals.Post
-  unfolding lengthAt literalAt
-  literals-returns-4 c =
-      let s = c .before .before .before .before .before .before .before .before .before .before .before .before in
-      let e = c .before .before .before .below .given in
-      c .literals2 .ensures ∙ sym (trying-none (s .pre .1 .0) (c .before .before .before .before .before .before .before .before .before .before .if1 .left) (stateIn (s .args .at)) (c .before .before .before .before .before .attempt .result) (sym (c .before .before .before .before .before .before .before .before .is-flipped .ensures) ∙ c .before .before .before .before .before .before .before .if2 .left) (c .before .before .before .before .before .attempt .ensures .0) (e .0 .0) (e .1))
+  literals-enum-known-tried : literals-lts.Need-enum-known-tried (literals-claims t) (literals-at t) literals.Post
+  literals-enum-known-tried c = c .match .keys1
 
--- ---- the call for one literal
+  -- what it gave
+  gave : (c : literals-lts.After-attempt (literals-claims t) (literals-at t) literals.Post) →
+      let s = c .before .before .before .before .before .args in
+      let literal = literalOf (literalAt (s .cells .now) (s .clause) (s .j)) in
+      answerIn (c .attempt .result) ≡
+      settle (s .budget) (s .calls) (attemptFrom (s .k) (s .cells .now) (s .left) (stateIn (s .at)) literal)
+  gave c = rw (c .before .before .literal-at .ensures) at (c .attempt .ensures .0)
+
+  literals-returns-2 : literals-lts.Need-returns-2 (literals-claims t) (literals-at t) literals.Post
+  literals-returns-2 c =
+      let a = c .before in
+      let d = a .before .before .before in
+      sym (trying-stops (d .before .before .pre .1 .0) (more d) (a .attempt .result) (gave a) (not-none _ (c .match .keys2)))
+
+  literals-add-literals : literals-lts.Need-add-literals (literals-claims t) (literals-at t) literals.Post
+  literals-add-literals c =
+      let d = c .before .before .before .before .before .before .before in
+      omega (arith, left-over d, trying-row (d .before .before .pre .1 .0) .short)
+
+  literals-literals-requires : literals-lts.Need-literals-requires (literals-claims t) (literals-at t) literals.Post
+  literals-literals-requires c κs =
+      let a = c .before .before .before .before in
+      let d = a .before .before .before in
+      let s = d .before .before in
+      let e = c .before .before .tried .given in
+      let made = trying-made (s .pre .1 .0) (more d) (a .attempt .result) (gave a) (e .0 .0) (e .1) in
+      (omega (arith, s .pre .0, left-over d), (trying-next (s .pre .1 .0) (more d) _ made, a .attempt .ensures .1))
+
+  literals-returns-3 : literals-lts.Need-returns-3 (literals-claims t) (literals-at t) literals.Post
+  literals-returns-3 c =
+      let a = c .before .before .before .before .before in
+      let d = a .before .before .before in
+      let e = c .before .before .before .tried .given in
+      c .literals .ensures ∙ sym (trying-none (d .before .before .pre .1 .0) (more d) (a .attempt .result) (gave a) (e .0 .0) (e .1))
+
+-- ---- one literal
 
 module _ (t : ℕ) where
-  attempt-last-call-requires : attempt-lts.Need-last-call-requires (attempt-claims t) (attempt-at t) attempt.Post
-  attempt-last-call-requires c κs = let a = c .before .pre .1 .0 in (a .ready .table .room, a .known)
+  attempt-tries-requires : attempt-lts.Need-tries-requires (attempt-claims t) (attempt-at t) attempt.Post
+  attempt-tries-requires c κs = c .pre .1 .0 .known
 
   attempt-returns : attempt-lts.Need-returns (attempt-claims t) (attempt-at t) attempt.Post
-  unfolding stateIn
+  unfolding answerIn
   attempt-returns c =
       let s = c .before .before in
-      let a = s .pre .1 .0 in
-      (rw (c .before .if1 .taken) (c .last-call .ensures .answer (s .args .cells .now) (a .ready) (a .counts) (a .unmet)), s .pre .1 .1)
+      let passed = sym (c .before .tries .ensures _) ∙ not-true _ (c .if1 .taken) in
+      (sym (in-passed _ _ _ _ _ _ _ passed (s .pre .1 .0 .enough)), s .pre .1 .1)
 
-  attempt-flip-requires : attempt-lts.Need-flip-requires (attempt-claims t) (attempt-at t) attempt.Post
-  attempt-flip-requires c κs =
-      let s = c .before .before in
-      (s .pre .1 .0 .ready .table .room, (s .pre .1 .0 .known, s .pre .1 .1))
+  -- the literal is tried
+  module _ (c : attempt-lts.Else1 (attempt-claims t) (attempt-at t) attempt.Post) where
+    tried : let s = c .before .before .args in
+        isTried (skip (held (s .k) (s .cells .now))) (stateIn (s .at)) (literalOf (s .literal)) ≡ true
+    tried = sym (c .before .tries .ensures _) ∙ not-false _ (c .if1 .left)
 
-  attempt-flip-requires-2 : attempt-lts.Need-flip-requires-2 (attempt-claims t) (attempt-at t) attempt.Post
-  attempt-flip-requires-2 c κs = c .before .before .before .before .pre .1 .0 .known
+    tryable : let s = c .before .before .args in Tryable (stateIn (s .at)) (literalOf (s .literal))
+    tryable = attempt-tryable (c .before .before .pre .1 .0) tried
 
-  attempt-sub-call : attempt-lts.Need-sub-call (attempt-claims t) (attempt-at t) attempt.Post
-  attempt-sub-call c = c .before .before .before .before .before .pre .1 .0 .flips
+    -- what its call gives is what the literal gives
+    given : let s = c .before .before .args in
+        settle (s .budget) (s .calls) (attemptFrom (s .k) (s .cells .now) (s .left) (stateIn (s .at)) (literalOf (s .literal))) ≡
+        settle (s .budget) (s .calls) (callFrom (s .k) (s .cells .now) (s .left - 1) (flip (stateIn (s .at)) (literalOf (s .literal))))
+    given = in-tried _ _ _ _ _ _ _ tried
 
-  attempt-call-requires : attempt-lts.Need-call-requires (attempt-claims t) (attempt-at t) attempt.Post
-  unfolding stateIn flip
-  attempt-call-requires c κs =
-      let s = c .before .before .before .before .before in
-      let a = s .pre .1 .0 in
-      (omega (arith, s .pre .0, a .flips), (a .ready, rw (ap (λ (q : State). q .assignment) (c .flip2 .ensures)) (attempt-flip a _ (c .before .before .flip .ensures))))
+  attempt-last-call-requires : attempt-lts.Need-last-call-requires (attempt-claims t) (attempt-at t) attempt.Post
+  attempt-last-call-requires c κs = let a = c .before .before .before .pre .1 .0 in (a .ready .table .room, a .known)
 
   attempt-returns-2 : attempt-lts.Need-returns-2 (attempt-claims t) (attempt-at t) attempt.Post
   attempt-returns-2 c =
-      let s = c .before .before .before .before .before .before in
-      (c .call .ensures ∙ ap (λ (q : State). settle (s .args .budget) (s .args .calls) (callFrom (s .args .k) (s .args .cells .now) (s .args .left - 1) q)) (c .before .flip2 .ensures), c .before .before .before .flip .ensures .size)
+      let d = c .before .before in
+      let s = d .before .before in
+      let a = s .pre .1 .0 in
+      let last = c .last-call .ensures .answer _ (a .ready) (a .shows) (tryable d) in
+      (rw (given d, c .before .if2 .taken) last, s .pre .1 .1)
+
+  attempt-flip-requires : attempt-lts.Need-flip-requires (attempt-claims t) (attempt-at t) attempt.Post
+  attempt-flip-requires c κs =
+      let s = c .before .before .before .before in
+      ((s .pre .1 .0 .ready .table .room, s .pre .1 .0 .known), s .pre .1 .1)
+
+  attempt-flip-requires-2 : attempt-lts.Need-flip-requires-2 (attempt-claims t) (attempt-at t) attempt.Post
+  attempt-flip-requires-2 c κs = c .before .before .before .before .before .pre .1 .0 .known
+
+  attempt-sub-call : attempt-lts.Need-sub-call (attempt-claims t) (attempt-at t) attempt.Post
+  attempt-sub-call c = c .before .before .before .before .before .before .before .pre .1 .0 .flips
+
+  attempt-call-requires : attempt-lts.Need-call-requires (attempt-claims t) (attempt-at t) attempt.Post
+  attempt-call-requires c κs =
+      let d = c .before .before .before .before .before in
+      let s = d .before .before in
+      let a = s .pre .1 .0 in
+      let shown = flip-shows (c .before .before .flip .ensures) (a .ready) (tryable d) (a .shows) in
+      (omega (arith, s .pre .0, a .flips), (a .ready, rw (c .before .flip2 .ensures) shown))
+
+  attempt-returns-3 : attempt-lts.Need-returns-3 (attempt-claims t) (attempt-at t) attempt.Post
+  attempt-returns-3 c =
+      let d = c .before .before .before .before .before .before in
+      let s = d .before .before .args in
+      let from : State → Answer = λ q. settle (s .budget) (s .calls) (callFrom (s .k) (s .cells .now) (s .left - 1) q) in
+      let after = ap from (c .before .before .flip2 .ensures) in
+      (c .call .ensures ∙ after ∙ sym (given d), c .before .before .before .flip .ensures .size)
 
 pub +attempt+call+literals-spec : {M : Type 1} → statement M
 +attempt+call+literals-spec =
     close μ-attempt μ-call μ-literals
-    (λ t. attempt-lts.spec (attempt-claims t) (attempt-at t) attempt.Post (attempt-last-call-requires t) (attempt-returns t) (attempt-flip-requires t) (attempt-flip-requires-2 t) (attempt-sub-call t) (attempt-call-requires t) (attempt-returns-2 t))
-    (λ t. call-lts.spec (call-claims t) (call-at t) call.Post (call-returns t) (call-first-false-requires t) (call-add-t13 t) (call-returns-2 t) (call-add-t14 t) (call-returns-3 t) (call-add-literals t) (call-literals-requires t) (call-returns-4 t))
-    (λ t. literals-lts.spec (literals-claims t) (literals-at t) literals.Post (literals-mul-start t) (literals-mul-length t) (literals-element-copy-out-length t) (literals-returns t) (literals-add-literal t) (literals-add-literal-2 t) (literals-mul-literal t) (literals-element-copy-out-literal t) (literals-is-flipped-requires t) (literals-add-literals t) (literals-literals-requires t) (literals-returns-2 t) (literals-attempt-requires t) (literals-enum-known-below t) (literals-returns-3 t) (literals-add-literals-2 t) (literals-literals-requires-2 t) (literals-returns-4 t))
+    (λ t.
+    attempt-lts.spec (attempt-claims t) (attempt-at t) attempt.Post
+    (attempt-tries-requires t)
+    (attempt-returns t)
+    (attempt-last-call-requires t)
+    (attempt-returns-2 t)
+    (attempt-flip-requires t)
+    (attempt-flip-requires-2 t)
+    (attempt-sub-call t)
+    (attempt-call-requires t)
+    (attempt-returns-3 t))
+    (λ t.
+    call-lts.spec (call-claims t) (call-at t) call.Post
+    (call-exhausted-requires t)
+    (call-returns t)
+    (call-choose-requires t)
+    (call-add-t14 t)
+    (call-returns-2 t)
+    (call-add-t15 t)
+    (call-returns-3 t)
+    (call-add-literals t)
+    (call-literals-requires t)
+    (call-returns-4 t))
+    (λ t.
+    literals-lts.spec (literals-claims t) (literals-at t) literals.Post
+    (literals-length-at-requires t)
+    (literals-returns t)
+    (literals-literal-at-requires t)
+    (literals-attempt-requires t)
+    (literals-enum-known-tried t)
+    (literals-returns-2 t)
+    (literals-add-literals t)
+    (literals-literals-requires t)
+    (literals-returns-3 t))

@@ -1,14 +1,24 @@
 -- `last_call` meets its contract, by its three answers.
-use mathlib.Core.Path.{ap}
+use mathlib.Core.Path.{sym, ap, _∙_}
+use Prim.Native.Nat.{_<_}
+use native.Mathlib.Omega.{arith}
+use borrow.Author.Tests.{leb-true, leb-false}
 use borrow.Author.Needs.{needs}
-use Rattle.search.specs.Explore.{State}
+use Rattle.search.specs.Ball.{State}
 use Rattle.search.specs.Machine.{stateIn}
 use Rattle.search.specs.MachineLaws.{last-spent, last-clear, last-none}
 use Rattle.search.proofs.ball.last_call.Statement.{statement}
 use Rattle.search.proofs.ball.last_call.Tie as tie
 
+exhausted-requires : tie.Need-exhausted-requires
+exhausted-requires c κs = search needs
+
 returns : tie.Need-returns
-returns c = last-spent _ _ _ _ _ _ _ (c .if1 .taken)
+returns c = last-spent _ _ _ _ _ _ _ (leb-true _ _ (sym (c .before .exhausted .ensures) ∙ c .if1 .taken))
+
+-- a call is left
+enough : (c : tie.Else1) → c .before .before .args .calls < c .before .before .args .budget
+enough c = leb-false _ _ (sym (c .before .exhausted .ensures) ∙ c .if1 .left)
 
 all-true-after-requires : tie.Need-all-true-after-requires
 all-true-after-requires c κs = search needs
@@ -17,19 +27,22 @@ flip-requires : tie.Need-flip-requires
 flip-requires c κs = search needs
 
 add-t12 : tie.Need-add-t12
-add-t12 c = search needs
+add-t12 c = omega (arith, enough (c .before .before .before .before))
 
 returns-2 : tie.Need-returns-2
 unfolding stateIn
 returns-2 c =
-    last-clear _ _ _ _ _ _ _ _ (c .before .before .before .all-true-after .ensures) (c .before .before .before .before .if1 .left) (c .before .before .if2 .taken) _
-    (ap (λ (q : State). q .assignment) (c .before .flip .ensures))
+    let tested = c .before .before .before in
+    let model = ap (λ (q : State). q .assignment) (c .before .flip .ensures) in
+    last-clear _ _ _ _ _ _ _ _ (tested .all-true-after .ensures) (enough (tested .before)) (c .before .before .if2 .taken) _ model
 
 add-t13 : tie.Need-add-t13
-add-t13 c = search needs
+add-t13 c = omega (arith, enough (c .before .before))
 
 returns-3 : tie.Need-returns-3
-returns-3 c = last-none _ _ _ _ _ _ _ _ (c .before .all-true-after .ensures) (c .before .before .if1 .left) (c .if2 .left)
+returns-3 c = last-none _ _ _ _ _ _ _ _ (c .before .all-true-after .ensures) (enough (c .before .before)) (c .if2 .left)
 
 pub last-call-spec : {M : Type 1} → statement M
-last-call-spec = tie.close (tie.spec returns all-true-after-requires flip-requires add-t12 returns-2 add-t13 returns-3)
+last-call-spec =
+    tie.close
+    (tie.spec exhausted-requires returns all-true-after-requires flip-requires add-t12 returns-2 add-t13 returns-3)

@@ -4,7 +4,8 @@ use Prim.Native.Nat.{ℕ, _+_, _-_, _*_}
 use native.Mathlib.Nat.{pos-of-ne-zero}
 use native.Mathlib.Omega.{arith}
 use borrow.Author.Needs.{needs}
-use Rattle.search.specs.Layout.{Midway, midway-start, midway-room, midway-step, midway-none, midway-one, midway-shift}
+use Rattle.search.specs.Machine.{Midway}
+use Rattle.search.specs.LayoutLaws.{midway-start, midway-room, midway-step, midway-none, midway-one, midway-shift}
 use Rattle.search.proofs.centre.centre.Statement.{statement}
 use Rattle.search.proofs.centre.centre.Tie as tie
 
@@ -19,14 +20,13 @@ zero-requires c κs = search needs
 
 loop-holds : tie.Need-loop-holds Inv-loop μ-loop
 loop-holds c =
-    let s = c .before in
-    midway-start (s .args .layout) (s .args .whole .now) (s .args .last .now) (s .pre .0) (s .args .i) _ (c .zero .ensures) refl refl
+    midway-start _ _ _ (c .before .pre .0) _ _ (c .zero .ensures) refl refl
 
 with-block-requires : tie.Need-with-block-requires Inv-loop μ-loop
 with-block-requires c κs =
     let s = c .before .before .before in
     let m = c .before .loop .inv in
-    let room = midway-room (s .args .layout) (s .args .whole .now) (s .args .last .now) (s .pre .0) (s .args .i) (c .before .loop .j) (c .before .loop .made) (c .loop-test .taken) m in
+    let room = midway-room _ _ _ (s .pre .0) _ _ _ (c .loop-test .taken) m in
     (s .pre .0 .wholes (omega arith), (s .pre .1 .0, ((s .pre .0 .size, room), m .towards .below)))
 
 add-j : tie.Need-add-j Inv-loop μ-loop
@@ -37,20 +37,18 @@ loop-less c = search needs
 
 loop-again : tie.Need-loop-again Inv-loop μ-loop
 loop-again c =
-    let s = c .before .before .before .before in
-    midway-step (s .args .layout) (s .args .whole .now) (s .args .last .now) (s .pre .0) (s .args .i) (c .before .before .loop .j) _ _ (c .before .loop-test .taken) (c .with-block .ensures) (c .before .before .loop .inv)
+    let laid = c .before .before .before .before .pre .0 in
+    midway-step _ _ _ laid _ _ _ _ (c .before .loop-test .taken) (c .with-block .ensures) (c .before .before .loop .inv)
 
 -- after all whole blocks
-module _ (c : tie.After-loop Inv-loop μ-loop) where
-  shifted : c .before .loop .made .shift ≡ c .before .before .before .args .layout .whole * c .before .before .before .args .layout .size
-  shifted =
-      let s = c .before .before .before in
-      midway-shift (s .args .layout) (s .args .whole .now) (s .args .last .now) (s .pre .0) (s .args .i) (c .before .loop .j) _ (c .loop-test .left) (c .before .loop .inv)
+shifted : (c : tie.After-loop Inv-loop μ-loop) →
+    let l = c .before .before .before .args .layout in c .before .loop .made .shift ≡ l .whole * l .size
+shifted c = midway-shift _ _ _ (c .before .before .before .pre .0) _ _ _ (c .loop-test .left) (c .before .loop .inv)
 
 returns : tie.Need-returns Inv-loop μ-loop
 returns c =
-    let s = c .before .before .before .before in (
-      midway-none (s .args .layout) (s .args .whole .now) (s .args .last .now) (s .pre .0) (s .args .i) (c .before .before .loop .j) _ (c .before .loop-test .left) (c .before .before .loop .inv) (c .if1 .taken),
+    let laid = c .before .before .before .before .pre .0 in (
+      midway-none _ _ _ laid _ _ _ (c .before .loop-test .left) (c .before .before .loop .inv) (c .if1 .taken),
       omega (arith, shifted (c .before), c .if1 .taken),
     )
 
@@ -58,14 +56,30 @@ with-block-requires-2 : tie.Need-with-block-requires-2 Inv-loop μ-loop
 with-block-requires-2 c κs =
     let s = c .before .before .before .before in
     let some = pos-of-ne-zero (c .if1 .left) in
-    (s .pre .0 .lasts some, (s .pre .1 .1, ((some, omega (arith, shifted (c .before), s .pre .0 .fits)), c .before .before .loop .inv .towards .below)))
+    let below = c .before .before .loop .inv .towards .below in
+    (s .pre .0 .lasts some, (s .pre .1 .1, ((some, omega (arith, shifted (c .before), s .pre .0 .fits)), below)))
 
 returns-2 : tie.Need-returns-2 Inv-loop μ-loop
 returns-2 c =
-    let s = c .before .before .before .before .before in (
-      midway-one (s .args .layout) (s .args .whole .now) (s .args .last .now) (s .pre .0) (s .args .i) (c .before .before .before .loop .j) _ (c .before .before .loop-test .left) (c .before .before .before .loop .inv) _ (c .before .if1 .left) (c .with-block2 .ensures),
-      c .with-block2 .ensures .shift ∙ ap (λ (x : ℕ). x + s .args .layout .last) (shifted (c .before .before)),
+    let s = c .before .before .before .before .before in
+    let done = c .before .before in
+    let some = c .before .if1 .left in (
+      midway-one _ _ _ (s .pre .0) _ _ _ (done .loop-test .left) (done .before .loop .inv) _ some (c .with-block2 .ensures),
+      c .with-block2 .ensures .shift ∙ ap (λ (x : ℕ). x + s .args .layout .last) (shifted done),
     )
 
 pub centre-spec : {M : Type 1} → statement M
-centre-spec = tie.close (tie.spec Inv-loop μ-loop zero-requires loop-holds with-block-requires add-j loop-less loop-again returns with-block-requires-2 returns-2)
+centre-spec =
+    tie.close
+    (tie.spec
+    Inv-loop
+    μ-loop
+    zero-requires
+    loop-holds
+    with-block-requires
+    add-j
+    loop-less
+    loop-again
+    returns
+    with-block-requires-2
+    returns-2)

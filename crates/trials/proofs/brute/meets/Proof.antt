@@ -1,17 +1,22 @@
--- `meets` is safe: the index stays within the table.
-use Prim.Native.Nat.{_≤_, _-_}
+-- `meets` meets its contract: before each turn, whether all clauses are true depends on those from i on.
+use Prim.Native.Nat.{_≤_, _-_, zero-le}
+use mathlib.Core.Path.{_≡_, refl}
+use native.Mathlib.Omega.{arith}
+use Rattle.words.specs.Lists.{every, span}
+use Rattle.trials.specs.Brute.{trueAt, meetsAll, every-here, every-next, every-end}
 use borrow.Author.Needs.{needs}
 use Rattle.trials.proofs.brute.meets.Statement.{statement}
 use Rattle.trials.proofs.brute.meets.Tie as tie
 
 abbrev Inv-loop : tie.InvT-loop
-Inv-loop assignment table k i₀ i = i ≤ k
+Inv-loop assignment table k i₀ i =
+    (i ≤ k) × (every (trueAt assignment table) (span i (k - i)) ≡ every (trueAt assignment table) (span 0 k))
 
 abbrev μ-loop : tie.MeasureT-loop
 μ-loop assignment table k i₀ i = k - i
 
 loop-holds : tie.Need-loop-holds Inv-loop μ-loop
-loop-holds c = search needs
+loop-holds c = let e : c .before .args .k - 0 ≡ c .before .args .k = omega arith in (zero-le, rw e refl)
 
 mul-falsifies : tie.Need-mul-falsifies Inv-loop μ-loop
 mul-falsifies c = search needs
@@ -38,7 +43,10 @@ falsifies-requires : tie.Need-falsifies-requires Inv-loop μ-loop
 falsifies-requires c κs = search needs
 
 returns : tie.Need-returns Inv-loop μ-loop
-returns c = search needs
+unfolding meetsAll trueAt
+returns c =
+    let l = c .before .before .before .before .before in
+    every-here _ (l .loop .i) _ _ (l .loop .inv .1) (omega arith) (rw (← c .before .falsifies .ensures, c .if1 .taken) refl)
 
 add-i : tie.Need-add-i Inv-loop μ-loop
 add-i c = search needs
@@ -47,10 +55,14 @@ loop-less : tie.Need-loop-less Inv-loop μ-loop
 loop-less c = search needs
 
 loop-again : tie.Need-loop-again Inv-loop μ-loop
-loop-again c = search needs
+unfolding trueAt
+loop-again c =
+    let l = c .before .before .before .before .before in
+    (omega arith, every-next _ (l .loop .i) _ _ (l .loop .inv .1) (omega arith) (rw (← c .before .falsifies .ensures, c .if1 .left) refl))
 
 returns-2 : tie.Need-returns-2 Inv-loop μ-loop
-returns-2 c = search needs
+unfolding meetsAll
+returns-2 c = every-end _ (c .before .loop .i) _ _ (c .before .loop .inv .1) (omega arith)
 
 pub meets-spec : {M : Type 1} → statement M
 meets-spec =

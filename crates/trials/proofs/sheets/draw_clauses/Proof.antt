@@ -6,7 +6,8 @@ use Rattle.trials.proofs.sheets.draw_clauses.Statement.{statement}
 use Rattle.trials.proofs.sheets.draw_clauses.Tie as tie
 
 abbrev Inv-loop : tie.InvT-loop
-Inv-loop sheet₀ table₀ shape clauses draft₀ i₀ sheet table draft i = (i ≤ clauses) × (draft .at ≤ 12 + 36 * i) × Roomy sheet table
+Inv-loop sheet₀ table₀ shape clauses draft₀ i₀ sheet table draft i =
+    (i ≤ clauses) × (draft .at ≤ 12 + 36 * i) × Roomy sheet table
 
 abbrev μ-loop : tie.MeasureT-loop
 μ-loop sheet₀ table₀ shape clauses draft₀ i₀ sheet table draft i = clauses - i

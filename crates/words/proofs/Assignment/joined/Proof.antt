@@ -3,7 +3,7 @@ use mathlib.Core.Path.{ap, _∙_}
 use native.Mathlib.Nat.{mod-eq-of-lt}
 use borrow.Author.Needs.{needs}
 use lib.Bits.{bitOr, or-shifted-r}
-use Rattle.words.specs.Value.{value}
+use Rattle.words.specs.Machine.{bitsOf}
 use Rattle.words.proofs.Assignment.joined.Statement.{statement}
 use Rattle.words.proofs.Assignment.joined.Tie as tie
 
@@ -11,7 +11,7 @@ shl-t4 : tie.Need-shl-t4
 shl-t4 c = search needs
 
 returns : tie.Need-returns
-unfolding value
+unfolding bitsOf
 returns c =
     let a = c .before .args in
     ap (bitOr (a .self .word)) (mod-eq-of-lt (c .before .pre .2)) ∙ or-shifted-r (a .word) (a .shift) (a .self .word) (c .before .pre .1)

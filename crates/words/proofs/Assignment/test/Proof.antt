@@ -2,7 +2,7 @@
 use mathlib.Core.Path.{refl}
 use borrow.Author.Needs.{needs}
 use Rattle.words.specs.Bits.{bit}
-use Rattle.words.specs.Value.{value}
+use Rattle.words.specs.Machine.{bitsOf}
 use Rattle.words.proofs.Assignment.test.Statement.{statement}
 use Rattle.words.proofs.Assignment.test.Tie as tie
 
@@ -10,7 +10,7 @@ shr-result : tie.Need-shr-result
 shr-result c = search needs
 
 returns : tie.Need-returns
-unfolding bit value
+unfolding bit bitsOf
 returns c = refl
 
 pub test-spec : {M : Type 1} → statement M

@@ -8,7 +8,7 @@ use lib.Bits.{bitXor}
 use lib.Dec.{lit<}
 use lib.Pow.{shl-exact}
 use Rattle.words.specs.Bits.{toggle}
-use Rattle.words.specs.Value.{value}
+use Rattle.words.specs.Machine.{bitsOf}
 use Rattle.words.proofs.Assignment.toggled.Statement.{statement}
 use Rattle.words.proofs.Assignment.toggled.Tie as tie
 
@@ -16,7 +16,7 @@ shl-t3 : tie.Need-shl-t3
 shl-t3 c = search needs
 
 returns : tie.Need-returns
-unfolding toggle value
+unfolding toggle bitsOf
 returns c =
     let v = c .before .args .v in
     ap (bitXor (c .before .args .self .word)) (shl-exact {a = 1} 1 v 32 (lit< tt) (omega arith) ∙ one-mul (2 ^ v))

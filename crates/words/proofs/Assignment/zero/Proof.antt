@@ -1,11 +1,11 @@
 -- `Assignment::zero` meets its contract.
 use mathlib.Core.Path.{refl}
-use Rattle.words.specs.Value.{value}
+use Rattle.words.specs.Machine.{bitsOf}
 use Rattle.words.proofs.Assignment.zero.Statement.{statement}
 use Rattle.words.proofs.Assignment.zero.Tie as tie
 
 returns : tie.Need-returns
-unfolding value
+unfolding bitsOf
 returns c = refl
 
 pub zero-spec : {M : Type 1} → statement M

@@ -1,9 +1,9 @@
--- `Path::flip` meets its contract: both numbers are toggled at the literal's place.
+-- `Path::flip` meets its contract: both numbers are toggled at the literal's bitOf.
 use mathlib.Core.Path.{ap₂}
 use Prim.Native.Nat.{ℕ}
 use borrow.Author.Needs.{needs}
-use Rattle.formula.specs.Formula.{place, literalOf}
-use Rattle.search.specs.Explore.{State, flip}
+use Rattle.formula.specs.Formula.{bitOf, literalOf}
+use Rattle.search.specs.Ball.{State, flip}
 use Rattle.search.specs.Machine.{stateIn}
 use Rattle.search.proofs.ball.Path.flip.Statement.{statement}
 use Rattle.search.proofs.ball.Path.flip.Tie as tie
@@ -21,7 +21,7 @@ toggled-requires-2 : tie.Need-toggled-requires-2
 toggled-requires-2 c κs = search needs
 
 returns : tie.Need-returns
-unfolding stateIn flip place literalOf
+unfolding stateIn flip bitOf literalOf
 returns c = ap₂ {C = State} (λ (a f : ℕ). record { assignment = a; flipped = f }) (c .before .toggled .ensures) (c .toggled2 .ensures)
 
 pub flip-spec : {M : Type 1} → statement M

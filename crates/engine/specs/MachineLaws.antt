@@ -1,0 +1,49 @@
+-- The laws that `decide` cites, one for each way through it.
+use mathlib.Core.Path.{_≡_}
+use mathlib.Core.Bool.{true, false}
+use mathlib.Core.List.{List}
+use Prim.Native.Nat.{ℕ, _≤_}
+use Rattle.words.specs.Bits.{width}
+use Rattle.words.specs.declared.Refusal.{Refusal}
+use Rattle.formula.specs.Machine.{SheetRead, Table}
+use Rattle.formula.specs.ReadingLaws.{sheet-accepted, sheet-refused}
+use Rattle.formula.specs.ParseAccepted.{parse-well-formed}
+use Rattle.formula.specs.declared.Reading.{Reading}
+use Rattle.formula.specs.declared.Reading.the-variants.{Accepted, Refused as Stopped}
+use Rattle.code.specs.Code.{code}
+use Rattle.code.specs.Operations.{coded?}
+use Rattle.code.specs.OperationLaws.{coded-bounds}
+use Rattle.tree.specs.Budget.{Answer, answer}
+use Rattle.search.specs.Run.{plan, blocks, searchOf, run}
+use Rattle.search.specs.Machine.{searchIn}
+use Rattle.engine.specs.Answers.{outcome, refusal, answered, decided, decision, BAD-PLAN}
+
+-- the numbers of an accepted plan
+pub plan-bounds : (size radius : ℕ) → coded? size radius ≡ true → (1 ≤ size) × (size ≤ 12) × (radius ≤ size)
+plan-bounds = coded-bounds
+
+-- What was read can be searched.
+pub read-ready : (s : List ℕ) (r : Reading) (cells : List ℕ) (b n k : ℕ) → SheetRead s r cells → r ≡ Accepted b n k →
+    (n ≤ width) × Table n k cells
+read-ready s r cells b n k h e =
+    let read = sheet-accepted s r cells h b n k e in
+    (parse-well-formed s _ (read .0) .variables, read .1)
+
+module _ (size radius A : ℕ) (s : List ℕ) where
+  -- a bad plan goes first;
+  pub decide-bad : coded? size radius ≡ false → refusal BAD-PLAN 0 ≡ decision (plan size radius) A s
+  unfolding decision
+  decide-bad e = rw e
+
+  module _ (good : coded? size radius ≡ true) (r : Reading) (cells : List ℕ) (h : SheetRead s r cells) where
+    -- then the sheet's refusal;
+    pub decide-declined : (q : Refusal) → r ≡ Stopped q → refusal (q .number) (q .place) ≡ decision (plan size radius) A s
+    unfolding decision decided
+    decide-declined q e = rw (good, sheet-refused s r cells h q e)
+
+    -- and otherwise the search over what was read.
+    pub decide-searched : (b n k : ℕ) → r ≡ Accepted b n k →
+        (a : Answer) → a ≡ answer A (run (searchIn k cells (blocks code (plan size radius) n))) →
+        record { batch = b; verdict = answered a } ≡ decision (plan size radius) A s
+    unfolding decision decided outcome searchIn searchOf
+    decide-searched b n k e a g = rw (good, sheet-accepted s r cells h b n k e .0, g)

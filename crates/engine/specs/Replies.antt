@@ -1,0 +1,37 @@
+-- The numbers of an answer on codes and on two sheets, as a host in C has them. In every reply `number` and `place` are the refusal's,
+-- and what does not belong to an answer is 0.
+use mathlib.Core.List.{List}
+use Prim.Native.Nat.{ℕ}
+use Rattle.code.specs.declared.Answer.{Answer}
+use Rattle.code.specs.declared.Answer.the-variants.{Number, Refused}
+use Rattle.alike.specs.declared.Comparison.{Comparison}
+use Rattle.alike.specs.declared.Comparison.the-variants.{Alike, Different, Refused as Declined}
+use Rattle.alike.specs.Alike.{comparison}
+use Rattle.engine.specs.declared.exports.NumberReply.{NumberReply}
+use Rattle.engine.specs.declared.exports.AlikeReply.{AlikeReply}
+use Rattle.engine.specs.Answers.{REFUSED}
+
+-- ---- codes, volumes and floors
+
+-- The number asked for, or the refusal.
+unfoldable pub resultOf : Answer → NumberReply
+resultOf (Number n) = record { result = n; number = 0; place = 0 }
+resultOf (Refused r) = record { result = 0; number = r .number; place = r .place }
+
+-- ---- two sheets
+
+abbrev pub ALIKE : ℕ
+ALIKE = 1
+
+abbrev pub DIFFERENT : ℕ
+DIFFERENT = 2
+
+-- A refusal says which sheet it is about.
+unfoldable pub comparisonOf : Comparison → AlikeReply
+comparisonOf Alike = record { answer = ALIKE; sheet = 0; number = 0; place = 0 }
+comparisonOf Different = record { answer = DIFFERENT; sheet = 0; number = 0; place = 0 }
+comparisonOf (Declined sheet refusal) = record { answer = REFUSED; sheet = sheet; number = refusal .number; place = refusal .place }
+
+-- What `alike` gives.
+unfoldable pub alikeTo : List ℕ → List ℕ → AlikeReply
+alikeTo s t = comparisonOf (comparison s t)

@@ -1,0 +1,100 @@
+// The operations on codes and on two sheets for a host in C (include/engine.h): the answers of the
+// crates code and alike, in numbers.
+use alike::Comparison;
+use code::Answer;
+ghost use mathlib.Core.Path.{_≡_};
+ghost use Rattle.code.specs.Operations.{codeAnswer, codeTable, volumeAnswer, floorAnswer};
+ghost use Rattle.engine.specs.Replies.{resultOf, comparisonOf, alikeTo};
+
+// The answer's number in a reply (specs/Replies.antt); a refusal's is that of `run`.
+pub const ALIKE: u32 = 1;
+
+pub const DIFFERENT: u32 = 2;
+
+// The number asked for, or a refusal; what does not belong to the answer is 0.
+#[repr(C)]
+pub struct NumberReply {
+    pub result: u32,
+    pub number: u32,
+    pub place: u32,
+}
+
+// What two sheets are to each other, or a refusal and the sheet that it is about.
+#[repr(C)]
+pub struct AlikeReply {
+    pub answer: u32,
+    pub sheet: u32,
+    pub number: u32,
+    pub place: u32,
+}
+
+fn in_numbers(answer: Answer) -> NumberReply
+    ensures { λ r. ⌜ r ≡ resultOf answer ⌝ }
+{
+    match answer {
+        Answer::Number(result) => NumberReply {
+            result,
+            number: 0,
+            place: 0,
+        },
+        Answer::Refused(refusal) => NumberReply {
+            result: 0,
+            number: refusal.number,
+            place: refusal.place,
+        },
+    }
+}
+
+#[no_mangle]
+pub extern "C" fn covering_code(t: u32, s: u32, table: &mut [u16]) -> NumberReply
+    ensures answer { λ r. ⌜ r ≡ resultOf (codeAnswer t s (now (table .entry))) ⌝ }
+    ensures cells { λ r. ⌜ now (table .exit) ≡ codeTable t s (now (table .entry)) ⌝ }
+{
+    in_numbers(code::code(t, s, table))
+}
+
+#[no_mangle]
+pub extern "C" fn ball_volume(t: u32, s: u32) -> NumberReply
+    ensures { λ r. ⌜ r ≡ resultOf (volumeAnswer t s) ⌝ }
+{
+    in_numbers(code::volume(t, s))
+}
+
+#[no_mangle]
+pub extern "C" fn covering_floor(t: u32, s: u32) -> NumberReply
+    ensures { λ r. ⌜ r ≡ resultOf (floorAnswer t s) ⌝ }
+{
+    in_numbers(code::floor(t, s))
+}
+
+fn compared(of: Comparison) -> AlikeReply
+    ensures { λ r. ⌜ r ≡ comparisonOf of ⌝ }
+{
+    match of {
+        Comparison::Alike => AlikeReply {
+            answer: ALIKE,
+            sheet: 0,
+            number: 0,
+            place: 0,
+        },
+        Comparison::Different => AlikeReply {
+            answer: DIFFERENT,
+            sheet: 0,
+            number: 0,
+            place: 0,
+        },
+        Comparison::Refused { sheet, refusal } => AlikeReply {
+            answer: crate::REFUSED,
+            sheet,
+            number: refusal.number,
+            place: refusal.place,
+        },
+    }
+}
+
+#[no_mangle]
+pub extern "C" fn alike(first: &[u8], second: &[u8]) -> AlikeReply
+    ensures { λ r. ⌜ r ≡ alikeTo (now (first .entry)) (now (second .entry)) ⌝ }
+{
+    compared(alike::compare(first, second))
+}

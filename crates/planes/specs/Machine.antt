@@ -1,0 +1,137 @@
+-- What the machine's words hold: numbers of clauses crosswise, 64 clauses to a word, whatever is counted; and which clauses hold
+-- a literal.
+use mathlib.Core.Path.{_≡_}
+use mathlib.Core.Bool.{Bool, not, _&&_, _||_}
+use mathlib.Core.List.{List}
+use Prim.Native.Nat.{ℕ, zero, suc, _+_, _-_, _*_, _/_, _%_, _≤_, _<_}
+use lib.Dec.{eqb, leb, ltb}
+use lib.ListN.{length, getD}
+use Rattle.words.specs.Lists.{every}
+use Rattle.words.specs.Bits.{bit, width}
+use Rattle.words.specs.BitLaws.{digit}
+use Rattle.formula.specs.Formula.{Clause, literalWord}
+use Rattle.formula.specs.Counts.{signCount, holds, Steps}
+use Rattle.formula.specs.Machine.{Table, clauseAt, held}
+use Rattle.planes.specs.declared.Planes.{Planes}
+
+-- ---- sizes
+
+-- the lanes of a word, one for each clause: clause i has lane i % lanes of word i / lanes
+abbrev pub lanes : ℕ
+lanes = 64
+
+-- the words of a row, which has a lane for each clause of the longest sheet
+abbrev pub rowWords : ℕ
+rowWords = 16
+
+-- the clauses that a row has lanes for
+abbrev pub laneCount : ℕ
+laneCount = lanes * rowWords
+
+-- the rows of the occurrence table, one for each word of a literal; the words 0 and 1 stand for no literal
+abbrev pub rowCount : ℕ
+rowCount = 2 * width + 2
+
+abbrev pub occurrenceCells : ℕ
+occurrenceCells = rowCount * rowWords
+
+-- four rows hold a number below 16 for each clause
+abbrev pub planeCells : ℕ
+planeCells = 4 * rowWords
+
+-- how many words k clauses take
+abbrev pub wordsOf : ℕ → ℕ
+wordsOf k = (k + (lanes - 1)) / lanes
+
+-- ---- numbers crosswise
+
+-- the number with these binary digits, the lowest first
+abbrev pub number : Bool → Bool → Bool → Bool → ℕ
+number a b c d = digit a + 2 * digit b + 4 * digit c + 8 * digit d
+
+-- the number in lane j of four planes
+unfoldable pub countIn : Planes → ℕ → ℕ
+countIn p j = number (bit (p .p0) j) (bit (p .p1) j) (bit (p .p2) j) (bit (p .p3) j)
+
+-- the planes of word w: each plane is a row
+unfoldable pub planesAt : List ℕ → ℕ → Planes
+planesAt xs w =
+    record { p0 = getD xs w 0; p1 = getD xs (w + rowWords) 0; p2 = getD xs (w + 2 * rowWords) 0; p3 = getD xs (w + 3 * rowWords) 0 }
+
+-- the number in lane i of an array of planes
+unfoldable pub countAt : List ℕ → ℕ → ℕ
+countAt xs i = countIn (planesAt xs (i / lanes)) (i % lanes)
+
+-- The planes hold the number that `count` gives each of the k clauses, and 1 in the lanes past the last clause.
+pub record Counts (k : ℕ) (cells : List ℕ) (count : Clause → ℕ) (planes : List ℕ) : Type 0 where
+  pub each : (i : ℕ) → i < k → countAt planes i ≡ count (clauseAt cells i)
+  pub rest : (i : ℕ) → k ≤ i → i < lanes * wordsOf k → countAt planes i ≡ 1
+
+-- r is the number of the first clause whose count is 0, or k where there is none.
+pub record FirstZero (k : ℕ) (cells : List ℕ) (count : Clause → ℕ) (r : ℕ) : Type 0 where
+  pub within : r ≤ k
+  pub before : (i : ℕ) → i < r → count (clauseAt cells i) ≡ 0 → ⊥
+  pub here : r < k → count (clauseAt cells r) ≡ 0
+
+-- ---- the clauses that hold a literal
+
+-- lane i of the row of the literal with the word w
+unfoldable pub lane : List ℕ → ℕ → ℕ → Bool
+lane occ w i = bit (getD occ (w * rowWords + i / lanes) 0) (i % lanes)
+
+-- The table holds k clauses, over no more variables than an assignment has room for.
+pub record Readable (k : ℕ) (cells : List ℕ) : Type 0 where
+  pub n : ℕ
+  pub small : n ≤ width
+  pub table : Table n k cells
+
+-- The occurrence table: in the row of each literal the lanes of the clauses that hold it are set.
+pub record Occurs (k : ℕ) (cells occ : List ℕ) : Type 0 where
+  pub each : (w i : ℕ) → w < rowCount → i < laneCount → lane occ w i ≡ (ltb i k && holds w (clauseAt cells i))
+
+-- The table after beside the one before: lane i is set too in the rows of the literals of c.
+pub record Marked (i : ℕ) (c : Clause) (before after : List ℕ) : Type 0 where
+  pub each : (w u : ℕ) → w < rowCount → u < laneCount → lane after w u ≡ (lane before w u || (holds w c && eqb u i))
+
+-- ---- one up in a row, one down in another
+
+-- In each lane q has one more than p where up is set and one less where down is set, if that is a number that four digits hold.
+pub record Moved (up down : ℕ) (p q : Planes) : Type 0 where
+  pub each : (j n : ℕ) → n < 16 → n + digit (bit down j) ≡ countIn p j + digit (bit up j) → countIn q j ≡ n
+
+-- The lanes of z are those in which that number is 0, if up and down share no lane.
+pub record ZerosAfter (up down : ℕ) (p : Planes) (z : ℕ) : Type 0 where
+  pub each : (j n : ℕ) → j < lanes → digit (bit up j) + digit (bit down j) ≤ 1 →
+      n + digit (bit down j) ≡ countIn p j + digit (bit up j) → bit z j ≡ eqb n 0
+
+-- The same for all lanes of k clauses, by the rows of two literals.
+pub record Shifted (k up down : ℕ) (occ from to : List ℕ) : Type 0 where
+  pub size : length to ≡ planeCells
+  pub each : (i n : ℕ) → i < lanes * wordsOf k → n < 16 →
+      n + digit (lane occ down i) ≡ countAt from i + digit (lane occ up i) → countAt to i ≡ n
+
+-- Whether no clause is left with 0, whatever is counted, where the rows move the numbers of the clauses from `count` to `next`.
+pub record AboveZero (k up down : ℕ) (occ from : List ℕ) (r : Bool) : Type 0 where
+  pub answer : (cells : List ℕ) (count next : Clause → ℕ) → Occurs k cells occ → Counts k cells count from →
+      ((i : ℕ) → i < k → Steps up down count next (clauseAt cells i)) → r ≡ every (λ c. not (eqb (next c) 0)) (held k cells)
+
+-- ---- the start
+
+-- the word of the literal of variable v + 1 with this sign
+abbrev pub signWord : Bool → ℕ → ℕ
+signWord b v = literalWord (record { variable = v + 1; positive = b })
+
+-- in how many of the rows of the literals of the first v variables with this sign lane i is set
+unfoldable pub laneSum : List ℕ → Bool → ℕ → ℕ → ℕ
+laneSum occ b i zero = 0
+laneSum occ b i (suc v) = laneSum occ b i v + digit (lane occ (signWord b v) i)
+
+-- Word w at the start: that number in the lane of each clause, and one more in the lanes past the last clause.
+pub record Summed (n k : ℕ) (occ : List ℕ) (b : Bool) (w : ℕ) (p : Planes) : Type 0 where
+  pub each : (j : ℕ) → j < lanes → digit (leb k (lanes * w + j)) + laneSum occ b (lanes * w + j) n < 16 →
+      countIn p j ≡ digit (leb k (lanes * w + j)) + laneSum occ b (lanes * w + j) n
+
+-- The planes at the start hold how many literals of each clause have the sign given.
+pub record Starts (n k : ℕ) (occ : List ℕ) (b : Bool) (planes : List ℕ) : Type 0 where
+  pub size : length planes ≡ planeCells
+  pub counts : (cells : List ℕ) → Table n k cells → Occurs k cells occ → Counts k cells (signCount b) planes

@@ -1,0 +1,69 @@
+-- The search in one ball (paper 01, "The search in one ball"; source 000, section 2.2). Assignments are numbers of any width.
+use mathlib.Core.Bool.{Bool, false, not, _&&_}
+use mathlib.Core.List.{List, []}
+use Prim.Native.Nat.{ℕ}
+use Rattle.words.specs.Lists.{every, keep, first}
+use Rattle.words.specs.Bits.{bit, toggle}
+use Rattle.formula.specs.Formula.{Literal, Clause, bitOf, true?}
+use Rattle.tree.specs.Explore.{Outcome, Tree, explore}
+
+-- Where a call stands: the assignment, and the set of variables flipped on this path.
+pub record State : Type 0 where
+  pub assignment : ℕ
+  pub flipped : ℕ
+
+-- What a clause reads as in a call: true or false under its assignment.
+unfoldable pub reading : State → Clause → Bool
+reading s c = true? (s .assignment) c
+
+-- the variable of the literal is flipped on this path
+unfoldable pub isFlipped : State → Literal → Bool
+isFlipped s l = bit (s .flipped) (bitOf l)
+
+-- the literal's variable flipped
+unfoldable pub flip : State → Literal → State
+flip s l = record { assignment = toggle (s .assignment) (bitOf l); flipped = toggle (s .flipped) (bitOf l) }
+
+-- ---- the branching rule
+
+-- A branching rule: the literals that a call tries, in order, where some clause is false.
+abbrev pub Rule : Type 0
+Rule = State → List Literal
+
+-- a literal is tried: it is not skipped, and its variable is not flipped
+unfoldable pub isTried : (State → Literal → Bool) → State → Literal → Bool
+isTried skip s l = not (skip s l) && not (isFlipped s l)
+
+-- of some literals those that are tried, in order
+unfoldable pub tried : (State → Literal → Bool) → State → List Literal → List Literal
+tried skip s ls = keep (isTried skip s) ls
+
+-- the rule that selects a clause and skips some of its literals
+unfoldable pub branch : (State → Clause) → (State → Literal → Bool) → Rule
+branch select skip s = tried skip s (select s)
+
+-- the engine selects the first clause that is false
+unfoldable pub select : List Clause → State → Clause
+select cs s = first (λ c. not (reading s c)) cs []
+
+-- and skips no literal but those of flipped variables
+unfoldable pub skip : List Clause → State → Literal → Bool
+skip cs s l = false
+
+-- The engine's rule.
+unfoldable pub rule : List Clause → Rule
+rule cs = branch (select cs) (skip cs)
+
+-- ---- the tree of a ball
+
+-- The four steps of a call in paper 01:
+-- 1. all clauses true: found, with this assignment: `goal`, `out`;
+-- 2. else, no flip left: no: `explore` at depth 0 makes no move;
+-- 3. else the first false clause, and no if each of its variables is flipped: `select`, and `rule` gives no literal;
+-- 4. else each of its literals in order whose variable is not flipped: flip it and call with one flip less: `moves`, `move`, `try`.
+unfoldable pub ballTree : List Clause → Rule → Tree State Literal
+ballTree cs rule = record { goal = λ s. every (reading s) cs; out = λ s. s .assignment; moves = rule; move = flip }
+
+-- The call at a state with r flips left.
+unfoldable pub ballSearch : List Clause → Rule → ℕ → State → Outcome
+ballSearch cs rule r s = explore (ballTree cs rule) r s

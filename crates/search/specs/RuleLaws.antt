@@ -1,0 +1,222 @@
+-- What a branching rule owes, and what one ball then promises: what it finds is a model, it finds one where one is in reach, and
+-- how many calls it takes. Lemma 1 of source 000 is `hits`.
+use mathlib.Core.Path.{_≡_, refl, sym, ap, _∙_, subst}
+use mathlib.Core.Logic.{⊎-elim}
+use mathlib.Core.Bool.{Bool, true, false, not, _&&_, _||_, Bool·beq, false≢true, true≢false}
+use mathlib.Core.List.{List, [], _∷_, List·Memᴰ·not-nil, List·Memᴰ·cases-cons}
+use Prim.Native.Nat.{ℕ, suc, _^_, _≤_, _<_}
+use native.Mathlib.Nat.{le-trans}
+use native.Mathlib.Omega.{arith}
+use lib.Dec.{eqb}
+use lib.ListN.{length}
+use borrow.Author.Tests.{eqb-true, eqb-false, not-true}
+use Rattle.words.specs.Lists.{In, some, every, first}
+use Rattle.words.specs.ListLaws.{every-in, some-in, in-some, keep-in, in-keep, length-keep, first-has, and-right, refute}
+use Rattle.words.specs.Bits.{bit, toggle, distance}
+use Rattle.words.specs.BitLaws.{bit-toggle-same, bit-toggle-other, toggle-lt, distance-toggle, distance-zero}
+use Rattle.formula.specs.Formula.{Literal, Clause, bitOf, met, true?, allTrue}
+use Rattle.tree.specs.Explore.{found, calls, powers}
+use Rattle.search.specs.Ball.{State, reading, isFlipped, flip, Rule, isTried, tried, branch, select, skip, rule, ballTree, ballSearch}
+use Rattle.search.specs.Run.{longest}
+use Rattle.tree.specs.TreeLaws.{Finds, explore-gives, explore-hit, explore-calls}
+
+-- What a clause reads as is whether it is true: the one law of `reading`,
+pub reading-true : (s : State) (c : Clause) → reading s c ≡ true? (s .assignment) c
+unfolding reading
+reading-true s c = refl
+
+-- so that a goal of a ball's tree is a model.
+pub goal-model : (s : State) (cs : List Clause) → every (reading s) cs ≡ allTrue (s .assignment) cs
+unfolding allTrue
+goal-model s cs = λ i. every (λ c. reading-true s c i) cs
+
+-- w agrees with the state on every flipped variable
+unfoldable pub Agrees : State → ℕ → Type 0
+Agrees s w = (v : ℕ) → bit (s .flipped) v ≡ true → bit w v ≡ bit (s .assignment) v
+
+-- What the literals that a call tries owe where some clause is false.
+pub record Branches (n k : ℕ) (cs : List Clause) (s : State) (ls : List Literal) : Type 0 where
+  -- at most k are tried,
+  pub few : length ls ≤ k
+  -- each over the variables 1 to n,
+  pub known : (l : Literal) → In l ls → bitOf l < n
+  -- not met,
+  pub unmet : (l : Literal) → In l ls → met (s .assignment) l ≡ false
+  -- and not flipped on this path;
+  pub fresh : (l : Literal) → In l ls → isFlipped s l ≡ false
+  -- and every model that agrees with the flipped variables meets one of them.
+  pub hits : (w : ℕ) → allTrue w cs ≡ true → Agrees s w → (l : Literal) × In l ls × (met w l ≡ true)
+
+-- A lawful rule: wherever some clause is false.
+unfoldable pub Lawful : ℕ → ℕ → List Clause → Rule → Type 0
+Lawful n k cs rule = (s : State) → allTrue (s .assignment) cs ≡ false → Branches n k cs s (rule s)
+
+-- ---- one ball under a lawful rule
+
+-- a literal that w meets and m does not: they differ in its variable
+differs : (m w : ℕ) (l : Literal) → met m l ≡ false → met w l ≡ true → bit m (bitOf l) ≡ bit w (bitOf l) → ⊥
+unfolding met
+differs m w l p q e = false≢true (sym p ∙ ap (λ (b : Bool). Bool·beq b (l .positive)) e ∙ q)
+
+other-bit : (a b : Bool) → (a ≡ b → ⊥) → b ≡ not a
+other-bit true true h = absurd (h refl)
+other-bit true false h = refl
+other-bit false true h = refl
+other-bit false false h = absurd (h refl)
+
+-- flipping a variable in which the assignment differs from w keeps the agreement
+agrees-flip : (s : State) (l : Literal) (w : ℕ) → (bit (s .assignment) (bitOf l) ≡ bit w (bitOf l) → ⊥) →
+    Agrees s w → Agrees (flip s l) w
+unfolding Agrees flip
+agrees-flip s l w d h v e = go (eqb (bitOf l) v) refl
+  where
+    go : (b : Bool) → eqb (bitOf l) v ≡ b → bit w v ≡ bit (toggle (s .assignment) (bitOf l)) v
+    go true q =
+        let at : ℕ → Type 0 = λ u. bit w u ≡ bit (toggle (s .assignment) (bitOf l)) u in
+        subst at (eqb-true (bitOf l) v q) (other-bit _ _ d ∙ sym (bit-toggle-same (s .assignment) (bitOf l)))
+    go false q =
+        let other : bitOf l ≡ v → ⊥ = eqb-false (bitOf l) v q in
+        h v (sym (bit-toggle-other (s .flipped) (bitOf l) v other) ∙ e)
+        ∙ sym (bit-toggle-other (s .assignment) (bitOf l) v other)
+
+module _ (n k : ℕ) (cs : List Clause) (rule : Rule) (lawful : Lawful n k cs rule) where
+  branches : (s : State) → every (reading s) cs ≡ false → Branches n k cs s (rule s)
+  unfolding Lawful
+  branches s g = lawful s (sym (goal-model s cs) ∙ g)
+
+  -- What a ball finds is a model below 2^n.
+  pub ball-gives : (r : ℕ) (s : State) → s .assignment < 2 ^ n → (m c : ℕ) → ballSearch cs rule r s ≡ found m c →
+      (m < 2 ^ n) × (allTrue m cs ≡ true)
+  unfolding ballSearch ballTree flip
+  ball-gives r s h m c e =
+      let (r′, y, p, g, o) = explore-gives (ballTree cs rule) (λ q x. x .assignment < 2 ^ n)
+      (λ q x l p g i. toggle-lt n (x .assignment) (bitOf l) p (branches x g .known l i)) r s h m c e in
+      (rw o p, rw o (sym (goal-model y cs) ∙ g))
+
+  -- A ball finds something where a model is in reach that agrees with the flipped variables.
+  pub ball-hit : (w : ℕ) → w < 2 ^ n → allTrue w cs ≡ true → (r : ℕ) (s : State) → s .assignment < 2 ^ n →
+      distance (s .assignment) w ≤ r → Agrees s w → Finds (ballSearch cs rule r s)
+  unfolding ballSearch ballTree
+  ball-hit w below model r s h near agrees = explore-hit (ballTree cs rule) Live here there r s (h, near, agrees)
+    where
+      Live : ℕ → State → Type 0
+      Live q x = (x .assignment < 2 ^ n) × (distance (x .assignment) w ≤ q) × Agrees x w
+
+      here : (x : State) → Live 0 x → every (reading x) cs ≡ true
+      here x (p, d, a) = goal-model x cs ∙ rw (distance-zero n (x .assignment) w p below (omega arith)) model
+
+      there : (q : ℕ) (x : State) → Live (suc q) x → every (reading x) cs ≡ false →
+          (l : Literal) × In l (rule x) × Live q (flip x l)
+      there q x (p, d, a) g =
+          let b : Branches n k cs x (rule x) = branches x g in
+          let (l, i, m) = b .hits w model a in
+          let apart : bit (x .assignment) (bitOf l) ≡ bit w (bitOf l) → ⊥ = differs (x .assignment) w l (b .unmet l i) m in
+          let nearer = distance-toggle n (x .assignment) w (bitOf l) p below (b .known l i) apart in
+          let still = toggle-lt n (x .assignment) (bitOf l) p (b .known l i) in
+          (l, i, (unfold flip in still, unfold flip in omega arith, agrees-flip x l w apart a))
+
+  pub ball-calls : (r : ℕ) (s : State) → calls (ballSearch cs rule r s) ≤ powers k r
+  unfolding ballSearch ballTree
+  ball-calls = explore-calls (ballTree cs rule) k (λ s g. branches s g .few)
+
+-- ---- rules that select a clause and skip some of its literals
+
+-- every literal is over the variables 1 to n
+unfoldable pub Known : ℕ → List Clause → Type 0
+Known n cs = (c : Clause) → In c cs → (l : Literal) → In l c → (1 ≤ l .variable) × (l .variable ≤ n)
+
+-- What a selection and its skipping owe: the clause is a false one, and no model that agrees with the flipped variables meets a
+-- literal skipped.
+pub record Fair (cs : List Clause) (select : State → Clause) (skip : State → Literal → Bool) (s : State) : Type 0 where
+  pub chosen : In (select s) cs
+  pub failing : true? (s .assignment) (select s) ≡ false
+  pub spared : (w : ℕ) → allTrue w cs ≡ true → Agrees s w → (l : Literal) → In l (select s) → skip s l ≡ true →
+      met w l ≡ false
+
+longest-in : (cs : List Clause) (c : Clause) → In c cs → length c ≤ longest cs
+unfolding longest
+longest-in [] c i = absurd (List·Memᴰ·not-nil i)
+longest-in (d ∷ cs) c i =
+    ⊎-elim (λ e. rw e (omega arith)) (λ i′. let h = longest-in cs c i′ in omega arith) (List·Memᴰ·cases-cons i)
+
+module _ (skip : State → Literal → Bool) (s : State) (l : Literal) where
+  pub tried-fresh : isTried skip s l ≡ true → isFlipped s l ≡ false
+  unfolding isTried
+  tried-fresh e = not-true (isFlipped s l) (and-right (not (skip s l)) (not (isFlipped s l)) e)
+
+  tries : skip s l ≡ false → isFlipped s l ≡ false → isTried skip s l ≡ true
+  unfolding isTried
+  tries e e′ = rw (e, e′)
+
+-- not every element passes: some element fails
+fails : {A : Type 0} (p : A → Bool) (xs : List A) → every p xs ≡ false → some (λ x. not (p x)) xs ≡ true
+unfolding every some
+fails p [] e = absurd (true≢false e)
+fails p (x ∷ xs) e = go (λ e′. fails p xs e′) (p x) e
+  where
+    go : (every p xs ≡ false → some (λ y. not (p y)) xs ≡ true) → (b : Bool) → (b && every p xs) ≡ false →
+        (not b || some (λ y. not (p y)) xs) ≡ true
+    go below true e′ = below e′
+    go below false e′ = refl
+
+-- a literal of a false clause is not met
+pub false-unmet : (m : ℕ) (c : Clause) → true? m c ≡ false → (l : Literal) → In l c → met m l ≡ false
+unfolding true?
+false-unmet m c e l i = refute (met m l) (λ q. true≢false (sym (in-some (met m) c l i q) ∙ e))
+
+module _ (n : ℕ) (cs : List Clause) (known : Known n cs) where
+  pub branch-lawful : (select : State → Clause) (skip : State → Literal → Bool) →
+      ((s : State) → allTrue (s .assignment) cs ≡ false → Fair cs select skip s) →
+      Lawful n (longest cs) cs (branch select skip)
+  unfolding Lawful branch tried Known true? allTrue
+  branch-lawful select skip fair s g =
+      record {
+        few = le-trans (length-keep (isTried skip s) (select s)) (longest-in cs (select s) (f .chosen));
+        known = λ l i. unfold bitOf in let h = known (select s) (f .chosen) l (here l i .0) in omega arith;
+        unmet = λ l i. unmet l (here l i .0);
+        fresh = λ l i. tried-fresh skip s l (here l i .1);
+        hits = λ w model a.
+            let (l, i, m) = some-in (met w) (select s) (every-in (true? w) cs model (select s) (f .chosen)) in
+            let unskipped : skip s l ≡ false = refute (skip s l) (λ e. true≢false (sym m ∙ f .spared w model a l i e)) in
+            let still : isFlipped s l ≡ false =
+            refute (isFlipped s l) (λ e. unfold Agrees isFlipped in differs (s .assignment) w l (unmet l i) m (sym (a (bitOf l) e))) in
+            (l, in-keep (isTried skip s) (select s) l i (tries skip s l unskipped still), m);
+      }
+    where
+      f : Fair cs select skip s
+      f = fair s g
+
+      here : (l : Literal) → In l (branch select skip s) → In l (select s) × (isTried skip s l ≡ true)
+      here l i = keep-in (isTried skip s) (select s) l i
+
+      unmet : (l : Literal) → In l (select s) → met (s .assignment) l ≡ false
+      unmet l i = false-unmet (s .assignment) (select s) (f .failing) l i
+
+  rule-fair : (s : State) → allTrue (s .assignment) cs ≡ false → Fair cs (select cs) (skip cs) s
+  unfolding select skip
+  rule-fair s g =
+      let (i, e) = first-has (λ c. not (reading s c)) cs [] (fails (reading s) cs (goal-model s cs ∙ g)) in
+      record {
+        chosen = i;
+        failing = sym (reading-true s (select cs s)) ∙ not-true _ e;
+        spared = λ w model a l i′ e′. absurd (false≢true e′);
+      }
+
+  -- The engine's rule is lawful.
+  pub rule-lawful : Lawful n (longest cs) cs (rule cs)
+  unfolding rule
+  rule-lawful = branch-lawful (select cs) (skip cs) rule-fair
+
+-- what the machine cites of the rule: the literals that are tried are those of the clause selected, which is the first that is false
+pub rule-tried : (cs : List Clause) (s : State) → rule cs s ≡ tried (skip cs) s (select cs s)
+unfolding rule branch
+rule-tried cs s = refl
+
+pub select-first : (cs : List Clause) (s : State) → select cs s ≡ first (λ c. not (reading s c)) cs []
+unfolding select
+select-first cs s = refl
+
+-- a literal is tried where its variable is not flipped
+pub tried-unflipped : (cs : List Clause) (s : State) (l : Literal) → isTried (skip cs) s l ≡ not (isFlipped s l)
+unfolding isTried skip
+tried-unflipped cs s l = refl

@@ -1,0 +1,55 @@
+// What the search counts of each clause: how many of its literals are met.
+ghost use mathlib.Core.List.{List};
+ghost use mathlib.Core.Path.{_≡_};
+ghost use Prim.Native.Nat.{ℕ, _≤_};
+ghost use lib.ListN.{length};
+ghost use Rattle.words.specs.Bits.{width};
+ghost use Rattle.planes.specs.Machine.{laneCount, planeCells};
+ghost use Rattle.search.specs.Ball.{State};
+ghost use Rattle.search.specs.Machine.{IsLiteral, Shows, Begins, Chosen, Flips, Settles};
+use planes::OCCURRENCES;
+use planes::PLANES;
+
+// The planes of the assignment 0, of k clauses over n variables.
+pub fn start(occ: &[u64; OCCURRENCES], n: u32, k: usize) -> [u64; PLANES]
+    requires { ⌜ (n ≤ width) × (k ≤ laneCount) ⌝ }
+    ensures { λ r. ⌜ Begins n k (now (occ .entry)) r ⌝ }
+{
+    planes::start(occ, n, k, false)
+}
+
+// The number of the clause whose literals a call tries, or k where all clauses are true.
+pub fn choose(planes: &[u64; PLANES], k: usize) -> usize
+    requires { ⌜ k ≤ laneCount ⌝ }
+    ensures { λ r. ⌜ ((cells : List ℕ) (s : State) → Shows k cells s (now (planes .entry)) → Chosen k cells s r) ⌝ }
+{
+    planes::first_zero(planes, k)
+}
+
+// The planes after the flip of a literal that is not met.
+pub fn flip(
+    occ: &[u64; OCCURRENCES],
+    k: usize,
+    literal: u32,
+    from: &[u64; PLANES],
+    to: &mut [u64; PLANES],
+)
+    requires { ⌜ (k ≤ laneCount) × IsLiteral literal ⌝ }
+    requires { ⌜ length (now to) ≡ planeCells ⌝ }
+    ensures { λ r. ⌜ Flips k literal (now (occ .entry)) (now (from .entry)) (now (to .exit)) ⌝ }
+{
+    planes::shift(occ, k, literal, literal ^ 1, from, to);
+}
+
+// Whether all clauses are true after that flip.
+pub fn all_true_after(
+    occ: &[u64; OCCURRENCES],
+    k: usize,
+    literal: u32,
+    planes: &[u64; PLANES],
+) -> bool
+    requires { ⌜ (k ≤ laneCount) × IsLiteral literal ⌝ }
+    ensures { λ r. ⌜ Settles k literal (now (occ .entry)) (now (planes .entry)) r ⌝ }
+{
+    planes::above_zero_after(occ, k, literal, literal ^ 1, planes)
+}

@@ -1,0 +1,7 @@
+-- The definitions and laws of the crate tree.
+pub mod Explore
+pub mod Budget
+pub mod Machine
+pub mod TreeLaws
+pub mod BudgetLaws
+pub mod Decides
