@@ -1,15 +1,15 @@
 -- What a branching rule owes, and what one ball then promises: what it finds is a model, it finds one where one is in reach, and
 -- how many calls it takes. Lemma 1 of source 000 is `hits`.
 use mathlib.Core.Path.{_≡_, refl, sym, ap, _∙_, subst}
-use mathlib.Core.Logic.{⊎-elim}
+use mathlib.Core.Logic.{_⊎_, inl, inr, ⊎-elim}
 use mathlib.Core.Bool.{Bool, true, false, not, _&&_, _||_, Bool·beq, false≢true, true≢false}
-use mathlib.Core.List.{List, [], _∷_, List·Memᴰ·not-nil, List·Memᴰ·cases-cons}
+use mathlib.Core.List.{List, [], _∷_, List·Memᴰ·head, List·Memᴰ·tail, List·Memᴰ·not-nil, List·Memᴰ·cases-cons}
 use Prim.Native.Nat.{ℕ, suc, _^_, _≤_, _<_}
 use native.Mathlib.Nat.{le-trans}
 use native.Mathlib.Omega.{arith}
-use lib.Dec.{eqb}
+use lib.Dec.{eqb, leb}
 use lib.ListN.{length}
-use borrow.Author.Tests.{eqb-true, eqb-false, not-true}
+use borrow.Author.Tests.{eqb-true, eqb-false, leb-true, leb-false, not-true}
 use Rattle.words.specs.Lists.{In, some, every, first}
 use Rattle.words.specs.ListLaws.{every-in, some-in, in-some, keep-in, in-keep, length-keep, first-has, and-right, refute}
 use Rattle.words.specs.Bits.{bit, toggle, distance}
@@ -133,11 +133,25 @@ pub record Fair (cs : List Clause) (select : State → Clause) (skip : State →
   pub spared : (w : ℕ) → allTrue w cs ≡ true → Agrees s w → (l : Literal) → In l (select s) → skip s l ≡ true →
       met w l ≡ false
 
-longest-in : (cs : List Clause) (c : Clause) → In c cs → length c ≤ longest cs
+-- k is the length of the longest clause: no clause is longer,
+pub longest-in : (cs : List Clause) (c : Clause) → In c cs → length c ≤ longest cs
 unfolding longest
 longest-in [] c i = absurd (List·Memᴰ·not-nil i)
 longest-in (d ∷ cs) c i =
     ⊎-elim (λ e. rw e (omega arith)) (λ i′. let h = longest-in cs c i′ in omega arith) (List·Memᴰ·cases-cons i)
+
+-- and some clause has that length, or it is 0.
+pub longest-reached : (cs : List Clause) → (longest cs ≡ 0) ⊎ ((c : Clause) × In c cs × (length c ≡ longest cs))
+unfolding longest
+longest-reached [] = inl refl
+longest-reached (d ∷ cs) =
+    ⊎-elim (λ l. inr (d, List·Memᴰ·head refl, omega arith))
+    (λ l. ⊎-elim (λ z. absurd (omega arith)) (λ (c, i, e). inr (c, List·Memᴰ·tail i, omega arith)) (longest-reached cs))
+    (order (leb (longest cs) (length d)) refl)
+  where
+    order : (b : Bool) → leb (longest cs) (length d) ≡ b → (longest cs ≤ length d) ⊎ (length d < longest cs)
+    order true l = inl (leb-true (longest cs) (length d) l)
+    order false l = inr (leb-false (longest cs) (length d) l)
 
 module _ (skip : State → Literal → Bool) (s : State) (l : Literal) where
   pub tried-fresh : isTried skip s l ≡ true → isFlipped s l ≡ false
