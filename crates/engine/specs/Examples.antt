@@ -108,7 +108,7 @@ examples =
 pub examples-hold : map (λ r. ask (r .question)) examples ≡ map (λ r. r .answer) examples
 unfolding examples ask numbers answerNumbers wordsIn
     some every keep first span bit toggle distance
-    Formula.bitOf Formula.met Formula.true? Formula.allTrue Formula.names Formula.literalWord Formula.literalOf
+    Formula.bitOf Formula.met Formula.someMet Formula.allTrue Formula.names Formula.literalWord Formula.literalOf
     Sheet.wordOf Sheet.words Sheet.kind Sheet.value Sheet._>>=_ Sheet._>>_ Sheet.refuse-when
     Sheet.take-word Sheet.take-number Sheet.take-literal
     Sheet.take-literals Sheet.take-clause Sheet.take-clauses Sheet.take-header Sheet.take-formula Sheet.parse

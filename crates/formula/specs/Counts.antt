@@ -3,19 +3,14 @@ use mathlib.Core.Path.{_≡_}
 use mathlib.Core.Bool.{Bool, Bool·beq}
 use Prim.Native.Nat.{ℕ, _+_, _≤_, _<_}
 use lib.Dec.{eqb}
-use lib.ListN.{length}
 use lib.Bits.{bitXor}
-use Rattle.words.specs.Lists.{some, keep}
+use Rattle.words.specs.Lists.{some, count}
 use Rattle.words.specs.BitLaws.{digit}
-use Rattle.formula.specs.Formula.{Clause, met, literalWord}
-
--- how many literals of a clause are met
-unfoldable pub metCount : ℕ → Clause → ℕ
-metCount m c = length (keep (met m) c)
+use Rattle.formula.specs.Formula.{Clause, literalWord}
 
 -- how many literals of a clause have this sign
 unfoldable pub signCount : Bool → Clause → ℕ
-signCount b c = length (keep (λ l. Bool·beq (l .positive) b) c)
+signCount b c = count (λ l. Bool·beq (l .positive) b) c
 
 -- the clause holds the literal with the word w
 unfoldable pub holds : ℕ → Clause → Bool

@@ -32,12 +32,12 @@ unfoldable pub met : ℕ → Literal → Bool
 met m l = Bool·beq (bit m (bitOf l)) (l .positive)
 
 -- A clause is true if a literal in it is met: the empty clause never is.
-unfoldable pub true? : ℕ → Clause → Bool
-true? m c = some (met m) c
+unfoldable pub someMet : ℕ → Clause → Bool
+someMet m c = some (met m) c
 
 -- Every clause is true: m is a model.
 unfoldable pub allTrue : ℕ → List Clause → Bool
-allTrue m cs = every (true? m) cs
+allTrue m cs = every (someMet m) cs
 
 -- Some assignment of n variables is a model: a number below 2^n, whose bits from n up are 0.
 unfoldable pub Satisfiable : ℕ → List Clause → Type 0

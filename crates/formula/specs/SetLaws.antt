@@ -9,7 +9,7 @@ use lib.Dec.{eqb}
 use borrow.Author.Tests.{eq-eqb, eqb-true}
 use Rattle.words.specs.Lists.{In, some}
 use Rattle.words.specs.ListLaws.{every-in, in-every, some-in, in-some, and-left, and-right, and-both, beq-true, both-ways}
-use Rattle.formula.specs.Formula.{Literal, Clause, met, true?, allTrue, literalWord, literalOf}
+use Rattle.formula.specs.Formula.{Literal, Clause, met, someMet, allTrue, literalWord, literalOf}
 use Rattle.formula.specs.ParseAccepted.{word-literal}
 use Rattle.formula.specs.Sets.{sameLiteral, within, sameSet, stands, sameClauses}
 
@@ -75,12 +75,12 @@ stands-means cs ds = (
 
 -- A model of ds is a model of every list of clauses that stands in ds.
 pub stands-model : (cs ds : List Clause) → stands cs ds ≡ true → (m : ℕ) → allTrue m ds ≡ true → allTrue m cs ≡ true
-unfolding allTrue true?
+unfolding allTrue someMet
 stands-model cs ds e m model =
-    in-every (true? m) cs
+    in-every (someMet m) cs
     (λ c i.
     let (d, j, same) = stands-means cs ds .0 e c i in
-    let (l, k, h) = some-in (met m) d (every-in (true? m) ds model d j) in
+    let (l, k, h) = some-in (met m) d (every-in (someMet m) ds model d j) in
     in-some (met m) c l (same l .1 k) h)
 
 -- ---- the same clauses

@@ -9,15 +9,17 @@ use native.Mathlib.Omega.{arith}
 use lib.Dec.{leb}
 use lib.ListN.{getD}
 use borrow.Author.Tests.{eqb-true, eqb-false, le-leb, lt-leb, leb-true, leb-false}
+use Rattle.words.specs.Lists.{count}
 use Rattle.words.specs.Bits.{bit, width}
 use Rattle.words.specs.BitLaws.{bit-zero, digit}
+use Rattle.words.specs.CountLaws.{count-adds, count-same, count-none}
 use Rattle.formula.specs.Formula.{Literal, WellFormedClause, literalWord, literalOf}
 use Rattle.formula.specs.Machine.{Table, clauseAt}
 use Rattle.planes.specs.declared.Planes.{Planes}
 use Rattle.planes.specs.Machine.{lanes, rowWords, laneCount, rowCount, wordsOf, countIn, planesAt, countAt, Counts, lane, Occurs, Moved, signWord, laneSum, Summed}
 use Rattle.formula.specs.Counts.{signCount}
 use Rattle.formula.specs.ParseEncode.{literal-word}
-use Rattle.formula.specs.CountLaws.{is, is-split, names?, tally, tally-adds, tally-same, tally-none, holds-digit, sign-small}
+use Rattle.formula.specs.CountLaws.{is, is-split, names?, holds-digit, sign-small}
 use Rattle.planes.specs.CountsLaws.{lane-held, lane-past}
 
 -- ---- the literals of the first v variables with one sign
@@ -67,13 +69,13 @@ literal-joins b v l = rw (sign-split b v l, add-one v) (go (names? (suc v) l) re
 
 module _ {k : ℕ} {cells occ : List ℕ} (o : Occurs k cells occ) (room : k ≤ laneCount) (b : Bool) (i : ℕ) where
   sum-upTo : {n : ℕ} → WellFormedClause n (clauseAt cells i) → i < k → (v : ℕ) → v ≤ width →
-      laneSum occ b i v ≡ tally (upTo b v) (clauseAt cells i)
+      laneSum occ b i v ≡ count (upTo b v) (clauseAt cells i)
   unfolding laneSum
   sum-upTo f h zero l =
       sym
-      (tally-same (upTo b 0) (λ x. false) (clauseAt cells i)
+      (count-same (upTo b 0) (λ x. false) (clauseAt cells i)
       (λ x y. rw (lt-leb (x .variable) 0 (f .known x y .0)) (and-false (Bool·beq (x .positive) b)))
-      ∙ tally-none (clauseAt cells i))
+      ∙ count-none (clauseAt cells i))
   sum-upTo f h (suc v) l =
       let c = clauseAt cells i in
       let w = signWord b v in
@@ -82,7 +84,7 @@ module _ {k : ℕ} {cells occ : List ℕ} (o : Occurs k cells occ) (room : k ≤
         sum-upTo f h v (omega arith),
         ap digit (lane-held o w i (row-below b v l) h room),
         holds-digit w c f,
-        tally-adds (upTo b v) (upTo b (suc v)) (is w) c (λ x y. literal-joins b v x),
+        count-adds (upTo b v) (upTo b (suc v)) (is w) c (λ x y. literal-joins b v x),
       )
 
   sum-held : {n : ℕ} → WellFormedClause n (clauseAt cells i) → i < k → n ≤ width →
@@ -90,7 +92,7 @@ module _ {k : ℕ} {cells occ : List ℕ} (o : Occurs k cells occ) (room : k ≤
   unfolding signCount
   sum-held {n} f h l =
       sum-upTo f h n l
-      ∙ tally-same (upTo b n) (λ l. Bool·beq (l .positive) b) (clauseAt cells i)
+      ∙ count-same (upTo b n) (λ l. Bool·beq (l .positive) b) (clauseAt cells i)
       (λ x y. rw (le-leb (x .variable) n (f .known x y .1)) (and-true (Bool·beq (x .positive) b)))
 
   sum-past : k ≤ i → i < laneCount → (v : ℕ) → v ≤ width → laneSum occ b i v ≡ 0

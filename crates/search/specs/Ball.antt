@@ -4,7 +4,7 @@ use mathlib.Core.List.{List, []}
 use Prim.Native.Nat.{ℕ}
 use Rattle.words.specs.Lists.{every, keep, first}
 use Rattle.words.specs.Bits.{bit, toggle}
-use Rattle.formula.specs.Formula.{Literal, Clause, bitOf, true?}
+use Rattle.formula.specs.Formula.{Literal, Clause, bitOf, someMet}
 use Rattle.tree.specs.Explore.{Outcome, Tree, explore}
 
 -- Where a call stands: the assignment, and the set of variables flipped on this path.
@@ -14,7 +14,7 @@ pub record State : Type 0 where
 
 -- What a clause reads as in a call: true or false under its assignment.
 unfoldable pub reading : State → Clause → Bool
-reading s c = true? (s .assignment) c
+reading s c = someMet (s .assignment) c
 
 -- the variable of the literal is flipped on this path
 unfoldable pub isFlipped : State → Literal → Bool

@@ -6,10 +6,10 @@ use Prim.Native.Nat.{ℕ, _<_}
 use native.Mathlib.Omega.{arith}
 use lib.Dec.{eqb}
 use borrow.Author.Tests.{eq-eqb, ne-eqb}
-use Rattle.words.specs.Lists.{every}
+use Rattle.words.specs.Lists.{every, count}
 use Rattle.words.specs.Bits.{toggle, width}
 use Rattle.formula.specs.Formula.{Clause, bitOf, met, literalOf}
-use Rattle.formula.specs.Counts.{metCount, opposite, Steps}
+use Rattle.formula.specs.Counts.{opposite, Steps}
 use Rattle.formula.specs.CountLaws.{opposite-lt, toggle-steps, true-count, start-count}
 use Rattle.formula.specs.Machine.{held, clauseAt}
 use Rattle.formula.specs.HeldLaws.{held-every, held-fails, held-first}
@@ -20,7 +20,7 @@ use Rattle.search.specs.RuleLaws.{reading-true, rule-tried, select-first
 use Rattle.search.specs.Machine.{centred, Ready, IsLiteral, Shows, Tryable, Begins, Chosen, Flips, Settles}
 
 -- a clause reads as true where its count is not 0
-reads : (s : State) (c : Clause) → reading s c ≡ not (eqb (metCount (s .assignment) c) 0)
+reads : (s : State) (c : Clause) → reading s c ≡ not (eqb (count (met (s .assignment)) c) 0)
 reads s c = reading-true s c ∙ true-count (s .assignment) c
 
 -- ---- the start
@@ -36,7 +36,7 @@ begins n k occ planes h =
 
 -- ---- the clause that the rule takes
 
-pub chosen : (k : ℕ) (cells : List ℕ) (s : State) (r : ℕ) → FirstZero k cells (metCount (s .assignment)) r →
+pub chosen : (k : ℕ) (cells : List ℕ) (s : State) (r : ℕ) → FirstZero k cells (count (met (s .assignment))) r →
     Chosen k cells s r
 chosen k cells s r f =
     record {
@@ -66,7 +66,7 @@ module _ (k literal : ℕ) (occ : List ℕ) (known : IsLiteral literal) where
   after m = toggle m (bitOf (literalOf literal))
 
   steps : (cells : List ℕ) (m : ℕ) → Ready k cells occ → met m (literalOf literal) ≡ false →
-      (i : ℕ) → i < k → Steps literal (opposite literal) (metCount m) (metCount (after m)) (clauseAt cells i)
+      (i : ℕ) → i < k → Steps literal (opposite literal) (count (met m)) (count (met (after m))) (clauseAt cells i)
   steps cells m r u i h = toggle-steps literal (clauseAt cells i) (r .table .each i h) m (known .0) u
 
   pub flips : (from to : List ℕ) → Shifted k literal (opposite literal) occ from to → Flips k literal occ from to
@@ -85,7 +85,7 @@ module _ (k literal : ℕ) (occ : List ℕ) (known : IsLiteral literal) where
         answer = λ cells s r shows t.
             let m = s .assignment in
             (λ i. every (λ c. reads (flip s (literalOf literal)) c i) (held k cells))
-            ∙ sym (h .answer cells (metCount m) (metCount (after m)) (r .occurs) (shows .met) (steps cells m r (t .unmet)));
+            ∙ sym (h .answer cells (count (met m)) (count (met (after m))) (r .occurs) (shows .met) (steps cells m r (t .unmet)));
       }
 
 -- After the flip of a literal that may be tried, in a call, the planes show the state after it;

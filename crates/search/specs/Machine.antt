@@ -5,11 +5,10 @@ use mathlib.Core.List.{List, [], _∷_, _++_}
 use Prim.Native.Nat.{ℕ, _+_, _-_, _*_, _/_, _%_, _^_, _≤_, _<_, min}
 use lib.ListN.{length, getD, take, replicate}
 use lib.Dec.{eqb}
-use Rattle.words.specs.Lists.{every}
+use Rattle.words.specs.Lists.{every, count}
 use Rattle.words.specs.Bits.{bit, toggle, width}
 use Rattle.words.specs.Machine.{bitsOf}
-use Rattle.formula.specs.Formula.{Literal, bitOf, met, true?, literalOf}
-use Rattle.formula.specs.Counts.{metCount}
+use Rattle.formula.specs.Formula.{Literal, bitOf, met, someMet, literalOf}
 use Rattle.formula.specs.Machine.{Table, held, clauseAt, lengthAt}
 use Rattle.tree.specs.declared.Found.{Found}
 use Rattle.tree.specs.Explore.{Outcome, none, try}
@@ -45,7 +44,7 @@ IsLiteral w = (2 ≤ w) × (w < 2 * width + 2)
 
 -- The planes show a state: how many literals of each clause its assignment meets.
 pub record Shows (k : ℕ) (cells : List ℕ) (s : State) (planes : List ℕ) : Type 0 where
-  pub met : Counts k cells (metCount (s .assignment)) planes
+  pub met : Counts k cells (count (met (s .assignment))) planes
 
 -- A literal that a call may try: it is not met, and its variable is not flipped.
 pub record Tryable (s : State) (l : Literal) : Type 0 where
@@ -63,13 +62,13 @@ pub record Chosen (k : ℕ) (cells : List ℕ) (s : State) (r : ℕ) : Type 0 wh
   pub all : r ≡ k → every (reading s) (held k cells) ≡ true
   pub some : r < k → every (reading s) (held k cells) ≡ false
   pub literals : r < k → rule (held k cells) s ≡ tried (skip (held k cells)) s (clauseAt cells r)
-  pub failing : r < k → true? (s .assignment) (clauseAt cells r) ≡ false
+  pub failing : r < k → someMet (s .assignment) (clauseAt cells r) ≡ false
 
 -- The flip of a literal that m does not meet moves the counts of m to those of m with its variable toggled.
 pub record Flips (k literal : ℕ) (occ from to : List ℕ) : Type 0 where
   pub size : length to ≡ planeCells
   pub met : (cells : List ℕ) (m : ℕ) → Ready k cells occ → met m (literalOf literal) ≡ false →
-      Counts k cells (metCount m) from → Counts k cells (metCount (toggle m (bitOf (literalOf literal)))) to
+      Counts k cells (count (met m)) from → Counts k cells (count (met (toggle m (bitOf (literalOf literal))))) to
 
 -- Whether all clauses are true after the flip of a literal.
 pub record Settles (k literal : ℕ) (occ planes : List ℕ) (r : Bool) : Type 0 where
@@ -96,7 +95,7 @@ pub record Trying (k : ℕ) (cells occ planes : List ℕ) (s : State) (clause j 
   pub ready : Ready k cells occ
   pub shows : Shows k cells s planes
   pub inside : clause < k
-  pub failing : true? (s .assignment) (clauseAt cells clause) ≡ false
+  pub failing : someMet (s .assignment) (clauseAt cells clause) ≡ false
   pub flips : 0 < left
   pub enough : calls ≤ budget
   pub more : j ≤ lengthAt cells clause

@@ -14,14 +14,14 @@ use Rattle.words.specs.Lists.{In, some, every, first}
 use Rattle.words.specs.ListLaws.{every-in, some-in, in-some, keep-in, in-keep, length-keep, first-has, and-right, refute}
 use Rattle.words.specs.Bits.{bit, toggle, distance}
 use Rattle.words.specs.BitLaws.{bit-toggle-same, bit-toggle-other, toggle-lt, distance-toggle, distance-zero}
-use Rattle.formula.specs.Formula.{Literal, Clause, bitOf, met, true?, allTrue}
+use Rattle.formula.specs.Formula.{Literal, Clause, bitOf, met, someMet, allTrue}
 use Rattle.tree.specs.Explore.{found, calls, powers}
 use Rattle.search.specs.Ball.{State, reading, isFlipped, flip, Rule, isTried, tried, branch, select, skip, rule, ballTree, ballSearch}
 use Rattle.search.specs.Run.{longest}
 use Rattle.tree.specs.TreeLaws.{Finds, explore-gives, explore-hit, explore-calls}
 
 -- What a clause reads as is whether it is true: the one law of `reading`,
-pub reading-true : (s : State) (c : Clause) → reading s c ≡ true? (s .assignment) c
+pub reading-true : (s : State) (c : Clause) → reading s c ≡ someMet (s .assignment) c
 unfolding reading
 reading-true s c = refl
 
@@ -129,7 +129,7 @@ Known n cs = (c : Clause) → In c cs → (l : Literal) → In l c → (1 ≤ l 
 -- literal skipped.
 pub record Fair (cs : List Clause) (select : State → Clause) (skip : State → Literal → Bool) (s : State) : Type 0 where
   pub chosen : In (select s) cs
-  pub failing : true? (s .assignment) (select s) ≡ false
+  pub failing : someMet (s .assignment) (select s) ≡ false
   pub spared : (w : ℕ) → allTrue w cs ≡ true → Agrees s w → (l : Literal) → In l (select s) → skip s l ≡ true →
       met w l ≡ false
 
@@ -174,15 +174,15 @@ fails p (x ∷ xs) e = go (λ e′. fails p xs e′) (p x) e
     go below false e′ = refl
 
 -- a literal of a false clause is not met
-pub false-unmet : (m : ℕ) (c : Clause) → true? m c ≡ false → (l : Literal) → In l c → met m l ≡ false
-unfolding true?
+pub false-unmet : (m : ℕ) (c : Clause) → someMet m c ≡ false → (l : Literal) → In l c → met m l ≡ false
+unfolding someMet
 false-unmet m c e l i = refute (met m l) (λ q. true≢false (sym (in-some (met m) c l i q) ∙ e))
 
 module _ (n : ℕ) (cs : List Clause) (known : Known n cs) where
   pub branch-lawful : (select : State → Clause) (skip : State → Literal → Bool) →
       ((s : State) → allTrue (s .assignment) cs ≡ false → Fair cs select skip s) →
       Lawful n (longest cs) cs (branch select skip)
-  unfolding Lawful branch tried Known true? allTrue
+  unfolding Lawful branch tried Known someMet allTrue
   branch-lawful select skip fair s g =
       record {
         few = le-trans (length-keep (isTried skip s) (select s)) (longest-in cs (select s) (f .chosen));
@@ -190,7 +190,7 @@ module _ (n : ℕ) (cs : List Clause) (known : Known n cs) where
         unmet = λ l i. unmet l (here l i .0);
         fresh = λ l i. tried-fresh skip s l (here l i .1);
         hits = λ w model a.
-            let (l, i, m) = some-in (met w) (select s) (every-in (true? w) cs model (select s) (f .chosen)) in
+            let (l, i, m) = some-in (met w) (select s) (every-in (someMet w) cs model (select s) (f .chosen)) in
             let unskipped : skip s l ≡ false = refute (skip s l) (λ e. true≢false (sym m ∙ f .spared w model a l i e)) in
             let still : isFlipped s l ≡ false =
             refute (isFlipped s l) (λ e. unfold Agrees isFlipped in differs (s .assignment) w l (unmet l i) m (sym (a (bitOf l) e))) in

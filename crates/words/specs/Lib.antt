@@ -3,4 +3,5 @@ pub mod Lists
 pub mod ListLaws
 pub mod Bits
 pub mod BitLaws
+pub mod CountLaws
 pub mod Machine

@@ -2,6 +2,7 @@
 use mathlib.Core.Bool.{Bool, true, false, cond, _&&_, _||_}
 use mathlib.Core.List.{List, [], _∷_, List·Memᴰ}
 use Prim.Native.Nat.{ℕ, zero, suc}
+use lib.ListN.{length}
 
 module _ {A : Type 0} where
   -- some element passes the test
@@ -18,6 +19,10 @@ module _ {A : Type 0} where
   unfoldable pub keep : (A → Bool) → List A → List A
   keep p [] = []
   keep p (x ∷ xs) = cond (p x) (x ∷ keep p xs) (keep p xs)
+
+  -- how many elements pass the test
+  unfoldable pub count : (A → Bool) → List A → ℕ
+  count p xs = length (keep p xs)
 
   -- the first element that passes the test, or d where none does
   unfoldable pub first : (A → Bool) → List A → A → A

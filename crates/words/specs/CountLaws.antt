@@ -1,0 +1,70 @@
+-- Laws of `count`: how many elements of a list pass a test.
+use mathlib.Core.Path.{_≡_, refl, sym, ap, _∙_}
+use mathlib.Core.Bool.{Bool, true, false, cond, not, _||_}
+use mathlib.Core.List.{List, [], _∷_, List·Memᴰ·head, List·Memᴰ·tail}
+use Prim.Native.Nat.{ℕ, zero, suc, _+_, _≤_}
+use native.Mathlib.Omega.{arith}
+use lib.Dec.{eqb, eqb·suc-zero}
+use lib.ListN.{length}
+use borrow.Author.Tests.{eqb-true, not-false}
+use Rattle.words.specs.Lists.{In, some, keep, count}
+use Rattle.words.specs.ListLaws.{length-keep}
+use Rattle.words.specs.BitLaws.{digit}
+
+module _ {A : Type 0} where
+  pub count-cons : (p : A → Bool) (x : A) (xs : List A) → count p (x ∷ xs) ≡ digit (p x) + count p xs
+  unfolding count keep
+  count-cons p x xs = go (p x)
+    where
+      go : (b : Bool) → length (cond b (x ∷ keep p xs) (keep p xs)) ≡ digit b + length (keep p xs)
+      go true = omega arith
+      go false = omega arith
+
+  pub count-le : (p : A → Bool) (xs : List A) → count p xs ≤ length xs
+  unfolding count
+  count-le p xs = length-keep p xs
+
+  -- what holds of each element holds of the sums
+  pub count-moves : (p q u d : A → Bool) (xs : List A) →
+      ((x : A) → In x xs → digit (q x) + digit (d x) ≡ digit (p x) + digit (u x)) →
+      count q xs + count d xs ≡ count p xs + count u xs
+  unfolding count keep
+  count-moves p q u d [] h = refl
+  count-moves p q u d (x ∷ xs) h =
+      let below = count-moves p q u d xs (λ y i. h y (List·Memᴰ·tail i)) in
+      omega (arith, h x (List·Memᴰ·head refl), count-cons p x xs, count-cons q x xs, count-cons u x xs, count-cons d x xs)
+
+  pub count-none : (xs : List A) → count (λ x. false) xs ≡ 0
+  unfolding count keep
+  count-none [] = refl
+  count-none (x ∷ xs) = count-none xs
+
+  pub count-adds : (p q u : A → Bool) (xs : List A) → ((x : A) → In x xs → digit (q x) ≡ digit (p x) + digit (u x)) →
+      count q xs ≡ count p xs + count u xs
+  count-adds p q u xs h = omega (arith, count-none xs, count-moves p q u (λ x. false) xs (λ x i. omega (arith, h x i)))
+
+  pub count-same : (p q : A → Bool) (xs : List A) → ((x : A) → In x xs → p x ≡ q x) → count p xs ≡ count q xs
+  count-same p q xs h = omega (arith, count-none xs, count-adds q p (λ x. false) xs (λ x i. omega (arith, ap digit (h x i))))
+
+  pub some-count : (p : A → Bool) (xs : List A) → some p xs ≡ not (eqb (count p xs) 0)
+  unfolding some count keep
+  some-count p [] = refl
+  some-count p (x ∷ xs) = go (some-count p xs) (p x)
+    where
+      go : some p xs ≡ not (eqb (length (keep p xs)) 0) → (b : Bool) →
+          (b || some p xs) ≡ not (eqb (length (cond b (x ∷ keep p xs) (keep p xs))) 0)
+      go below true = rw (eqb·suc-zero (length (keep p xs)))
+      go below false = below
+
+  -- where at most one element passes, whether one does is how many do
+  pub some-digit : (p : A → Bool) (xs : List A) → count p xs ≤ 1 → digit (some p xs) ≡ count p xs
+  some-digit p xs h = ap digit (some-count p xs) ∙ go (count p xs) h
+    where
+      go : (t : ℕ) → t ≤ 1 → digit (not (eqb t 0)) ≡ t
+      go zero l = refl
+      go (suc zero) l = refl
+      go (suc (suc t)) l = absurd (omega arith)
+
+  -- a test that no element passes
+  pub count-zero : (p : A → Bool) (xs : List A) → some p xs ≡ false → count p xs ≡ 0
+  count-zero p xs e = eqb-true _ 0 (not-false _ (sym (some-count p xs) ∙ e))
