@@ -109,10 +109,10 @@ pub record Attempting (k : ℕ) (cells occ planes : List ℕ) (s : State) (liter
   pub flips : 0 < left
   pub enough : calls ≤ budget
 
--- the call after the literal's flip, with no flip left
-pub record LastCall (k : ℕ) (occ planes : List ℕ) (s : State) (literal budget made : ℕ) (r : Found) : Type 0 where
-  pub answer : (cells : List ℕ) → Ready k cells occ → Shows k cells s planes → Tryable s (literalOf literal) →
-      answerIn r ≡ settle budget made (callFrom k cells 0 (flip s (literalOf literal)))
+-- one literal where one flip is left, so that its call is the last on its path
+pub record LastAttempt (k : ℕ) (occ planes : List ℕ) (s : State) (literal budget made : ℕ) (r : Found) : Type 0 where
+  pub answer : (cells : List ℕ) → Attempting k cells occ planes s literal 1 made budget →
+      answerIn r ≡ settle budget made (attemptFrom k cells 1 s (literalOf literal))
 
 -- ---- the blocks and their centres
 

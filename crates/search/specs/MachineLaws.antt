@@ -12,7 +12,7 @@ use denote.Enum.Declared.{tagOf}
 use Rattle.words.specs.Bits.{width}
 use Rattle.words.specs.Machine.{bitsOf}
 use Rattle.words.specs.declared.Assignment.{Assignment}
-use Rattle.formula.specs.Formula.{Literal, literalOf}
+use Rattle.formula.specs.Formula.{Literal, Clause, literalOf}
 use Rattle.formula.specs.Machine.{Row, held, clauseAt, lengthAt, literalAt}
 use Rattle.formula.specs.TableLaws.{table-row, row-cons, row-end, row-in, clause-known}
 use Rattle.tree.specs.declared.Found.{Found}
@@ -25,7 +25,7 @@ use Rattle.tree.specs.Machine.{answerIn}
 use Rattle.search.specs.Ball.{State, flip, isTried, tried, skip, rule}
 use Rattle.search.specs.RuleLaws.{tried-fresh, false-unmet}
 use Rattle.search.specs.CallLaws.{search-spent, search-clear, search-none, search-literals, try-tried}
-use Rattle.search.specs.Machine.{IsLiteral, Tryable, Chosen, Settles, Trying, Attempting, LastCall, callFrom, attemptFrom, literalsFrom}
+use Rattle.search.specs.Machine.{IsLiteral, Tryable, Chosen, Settles, Trying, Attempting, LastAttempt, callFrom, attemptFrom, literalsFrom}
 
 module _ (k : ℕ) (cells : List ℕ) (left : ℕ) (s : State) (A c : ℕ) where
   -- ---- one call
@@ -160,31 +160,45 @@ pub attempt-tryable : {k : ℕ} {cells occ planes : List ℕ} {s : State} {liter
     Tryable s (literalOf literal)
 attempt-tryable {k} {cells} {s = s} a tried = record { unmet = a .unmet; fresh = tried-fresh (skip (held k cells)) s _ tried }
 
--- ---- the last call on a path
+-- ---- one literal with one flip left
 
-module _ (k : ℕ) (occ planes : List ℕ) (s : State) (literal A c : ℕ) where
-  pub last-spent : A ≤ c → LastCall k occ planes s literal A c (Spent A)
+module _ (k : ℕ) (occ planes : List ℕ) (s : State) (literal A c : ℕ) (t : Bool)
+    (tests : (cs : List Clause) → t ≡ isTried (skip cs) s (literalOf literal)) where
+  abbrev Last : Found → Type 0
+  Last = LastAttempt k occ planes s literal A c
+
+  pub last-passed : t ≡ false → Last (None c)
   unfolding answerIn
-  last-spent h = record { answer = λ cells r n u. sym (in-spent k cells 0 (flip s (literalOf literal)) A c h) }
+  last-passed e = record { answer = λ cells a. sym (in-passed k cells 1 s A c (literalOf literal) (sym (tests _) ∙ e) (a .enough)) }
 
-  module _ (b : Bool) (settles : Settles k literal occ planes b) (enough : c < A) where
-    pub last-clear : b ≡ true → (a : Assignment) → bitsOf a ≡ (flip s (literalOf literal)) .assignment →
-        LastCall k occ planes s literal A c (Clear a (c + 1))
-    unfolding answerIn callFrom
-    last-clear e a v =
+  module _ (tried : t ≡ true) where
+    abbrev after : State
+    after = flip s (literalOf literal)
+
+    -- what its call gives is what the literal gives
+    last-tried : (r : Found) →
+        ((cells : List ℕ) → Attempting k cells occ planes s literal 1 c A → Tryable s (literalOf literal) →
+        answerIn r ≡ settle A c (callFrom k cells 0 after)) → Last r
+    last-tried r gives =
         record {
-          answer = λ cells r n u.
-              let cs = held k cells in
-              let all = settles .answer cells s r n u ∙ e in
-              ap (λ (m : ℕ). clear m (c + 1)) v ∙ sym (search-clear A c cs (rule cs) 0 (flip s (literalOf literal)) enough all);
+          answer = λ cells a.
+              let e = sym (tests _) ∙ tried in
+              gives cells a (attempt-tryable a e) ∙ sym (in-tried k cells 1 s A c (literalOf literal) e);
         }
 
-    pub last-none : b ≡ false → LastCall k occ planes s literal A c (None (c + 1))
-    unfolding answerIn callFrom
-    last-none e =
-        record {
-          answer = λ cells r n u.
-              let cs = held k cells in
-              let some = settles .answer cells s r n u ∙ e in
-              sym (search-none A c cs (rule cs) 0 (flip s (literalOf literal)) enough some refl);
-        }
+    pub last-spent : A ≤ c → Last (Spent A)
+    unfolding answerIn
+    last-spent h = last-tried (Spent A) (λ cells a u. sym (in-spent k cells 0 after A c h))
+
+    module _ (b : Bool) (settles : Settles k literal occ planes b) (enough : c < A) where
+      pub last-clear : b ≡ true → (m : Assignment) → bitsOf m ≡ after .assignment → Last (Clear m (c + 1))
+      unfolding answerIn callFrom
+      last-clear e m v =
+          last-tried (Clear m (c + 1))
+          (λ cells a u. rw v (sym (search-clear A c _ _ 0 after enough (settles .answer cells s (a .ready) (a .shows) u ∙ e))))
+
+      pub last-none : b ≡ false → Last (None (c + 1))
+      unfolding answerIn callFrom
+      last-none e =
+          last-tried (None (c + 1))
+          (λ cells a u. sym (search-none A c _ _ 0 after enough (settles .answer cells s (a .ready) (a .shows) u ∙ e) refl))

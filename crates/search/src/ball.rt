@@ -14,7 +14,7 @@ ghost use Rattle.tree.specs.BudgetLaws.{settle};
 ghost use Rattle.tree.specs.Machine.{answerIn};
 ghost use Rattle.planes.specs.Machine.{laneCount, planeCells};
 ghost use Rattle.search.specs.Ball.{flip, isTried, skip};
-ghost use Rattle.search.specs.Machine.{stateIn, Ready, IsLiteral, Shows, Trying, Attempting, LastCall, callFrom, attemptFrom, literalsFrom};
+ghost use Rattle.search.specs.Machine.{stateIn, Ready, IsLiteral, Shows, Trying, Attempting, LastAttempt, callFrom, attemptFrom, literalsFrom};
 
 // Where a call stands: the assignment, and the variables flipped on the way to it.
 pub struct Path {
@@ -70,6 +70,9 @@ pub fn call(
     }
     if left == 0 {
         return Found::None(calls + 1);
+    }
+    if left == 1 {
+        return last_literals(cells, occ, k, planes, at, clause, calls + 1, budget);
     }
     let mut next = [0u64; PLANES];
     literals(
@@ -141,8 +144,7 @@ fn literals(
     )
 }
 
-// One literal: where it is tried, a call with one flip less. With one flip left that call is the
-// last on its path, and needs no planes.
+// One literal: where it is tried, a call with one flip less.
 fn attempt(
     cells: &[u32; formula::CELLS],
     occ: &[u64; OCCURRENCES],
@@ -163,16 +165,45 @@ fn attempt(
     if !at.tries(literal) {
         return Found::None(calls);
     }
-    if left == 1 {
-        return last_call(occ, k, planes, at, literal, calls, budget);
-    }
     counts::flip(occ, k, literal, planes, next);
     let after = at.flip(literal);
     call(cells, occ, k, next, after, left - 1, calls, budget)
 }
 
-// The call after the literal's flip, with no flip left: all clauses are true, or it is none.
-fn last_call(
+// The literals of the chosen clause with one flip left, one after the other: each call is the last
+// on its path, and needs no planes.
+fn last_literals(
+    cells: &[u32; formula::CELLS],
+    occ: &[u64; OCCURRENCES],
+    k: usize,
+    planes: &[u64; PLANES],
+    at: Path,
+    clause: usize,
+    calls: u32,
+    budget: u32,
+) -> Found
+    requires { ⌜ Trying k (now cells) (now occ) (now planes) (stateIn at) clause 0 1 calls budget ⌝ }
+    ensures { λ r. ⌜ answerIn r ≡ settle budget calls
+        (literalsFrom k (now (cells .entry)) 1 (stateIn at) (clauseAt (now (cells .entry)) clause)) ⌝ }
+{
+    let size = formula::length_at(cells, clause);
+    let mut made = calls;
+    let mut j = 0;
+    while j < size {
+        let literal = formula::literal_at(cells, clause, j);
+        let tried = last_attempt(occ, k, planes, at, literal, made, budget);
+        let Found::None(next) = tried else {
+            return tried;
+        };
+        made = next;
+        j += 1;
+    }
+    Found::None(made)
+}
+
+// One literal with one flip left: where it is tried, all clauses are true after its flip, or its
+// call is none.
+fn last_attempt(
     occ: &[u64; OCCURRENCES],
     k: usize,
     planes: &[u64; PLANES],
@@ -182,8 +213,11 @@ fn last_call(
     budget: u32,
 ) -> Found
     requires { ⌜ (k ≤ laneCount) × IsLiteral literal ⌝ }
-    ensures { λ r. ⌜ LastCall k (now (occ .entry)) (now (planes .entry)) (stateIn at) literal budget calls r ⌝ }
+    ensures { λ r. ⌜ LastAttempt k (now (occ .entry)) (now (planes .entry)) (stateIn at) literal budget calls r ⌝ }
 {
+    if !at.tries(literal) {
+        return Found::None(calls);
+    }
     if tree::exhausted(calls, budget) {
         return Found::Spent(budget);
     }

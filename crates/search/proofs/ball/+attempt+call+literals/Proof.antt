@@ -11,19 +11,19 @@ use borrow.Author.Tests.{not-true, not-false, leb-true, leb-false}
 use borrow.Author.Needs.{needs}
 use borrow.Fn.Kinds.{In}
 use borrow.Fn.PlainCycle.{Measures, is, falls, and}
-use Rattle.formula.specs.Machine.{held, lengthAt, literalAt}
+use Rattle.formula.specs.Machine.{held, clauseAt, lengthAt, literalAt}
 use Rattle.formula.specs.Formula.{literalOf}
 use Rattle.search.specs.Ball.{State, flip, isTried, skip}
 use Rattle.tree.specs.Budget.{Answer}
 use Rattle.tree.specs.BudgetLaws.{settle}
 use Rattle.tree.specs.Machine.{answerIn}
-use Rattle.search.specs.Machine.{stateIn, Chosen, Tryable, callFrom, attemptFrom}
+use Rattle.search.specs.Machine.{stateIn, Chosen, Tryable, Trying, callFrom, attemptFrom, literalsFrom}
 use Rattle.search.specs.MachineLaws.{in-spent, in-clear, in-none, in-literals, in-end, in-passed, in-tried, trying-row, trying-left, trying-end, trying-attempt, trying-next, trying-none, trying-made, trying-stops, attempt-tryable, not-none}
 use Rattle.search.specs.CountLaws.{flip-shows}
 use Rattle.search.proofs.ball.attempt.Reads as attempt
 use Rattle.search.proofs.ball.attempt.Kinds as attempt-kinds
 use Rattle.search.proofs.ball.+attempt+call+literals.Lts-attempt as attempt-lts
-use Rattle.search.proofs.ball.last_call.Reads as last-call-reads
+use Rattle.search.proofs.ball.last_literals.Reads as last-literals-reads
 use Rattle.search.proofs.ball.call.Reads as call
 use Rattle.search.proofs.ball.call.Kinds as call-kinds
 use Rattle.search.proofs.ball.+attempt+call+literals.Lts-call as call-lts
@@ -75,6 +75,8 @@ call-claims t = (
   exhausted-reads.Learnt,
   choose-reads.Asked,
   choose-reads.Learnt,
+  last-literals-reads.Asked,
+  last-literals-reads.Learnt,
   literals-below t,
   literals.Post,
 )
@@ -95,8 +97,6 @@ abbrev attempt-claims : ℕ → attempt-lts.Claims
 attempt-claims t = (
   tries-reads.Asked,
   tries-reads.Learnt,
-  last-call-reads.Asked,
-  last-call-reads.Learnt,
   counts-flip-reads.Asked,
   counts-flip-reads.Learnt,
   ball-Path-flip-reads.Asked,
@@ -148,42 +148,58 @@ module _ (t : ℕ) where
       let chosen = c .before .before in
       sym (in-none _ _ _ _ _ _ (chosen .choose .result) (enough (chosen .before)) (first chosen) (c .before .if2 .left) (c .if3 .taken))
 
-  call-add-literals : call-lts.Need-add-literals (call-claims t) (call-at t) call.Post
-  call-add-literals c = omega (arith, enough (c .before .before .before .before))
+  -- there is a flip for the calls of its literals
+  module _ (c : call-lts.Else3 (call-claims t) (call-at t) call.Post) where
+    tried-with : let chosen = c .before .before in
+        let a = chosen .before .before .before .args in
+        Trying (a .k) (a .cells .now) (a .occ .now) (a .planes .now) (stateIn (a .at)) (chosen .choose .result) 0 (a .left)
+        (a .calls + 1) (a .budget)
+    tried-with =
+        let chosen = c .before .before in
+        let s = chosen .before .before .before in
+        let f = first chosen in
+        let inside : chosen .choose .result < s .args .k = omega (arith, f .within, c .before .if2 .left) in
+        record {
+          ready = s .pre .1 .0;
+          shows = s .pre .1 .1;
+          inside = inside;
+          failing = f .failing inside;
+          flips = pos-of-ne-zero (c .if3 .left);
+          enough = omega (arith, enough (chosen .before));
+          more = omega arith;
+        }
 
-  call-literals-requires : call-lts.Need-literals-requires (call-claims t) (call-at t) call.Post
-  unfolding stateIn
-  call-literals-requires c κs =
-      let chosen = c .before .before .before in
-      let s = chosen .before .before .before in
-      let r = chosen .choose .result in
-      let f = first chosen in
-      let inside : r < s .args .k = omega (arith, f .within, c .before .before .if2 .left) in
-      let some : 0 < s .args .left = pos-of-ne-zero (c .before .if3 .left) in
-      let short : lengthAt (s .args .cells .now) r ≤ 8 = s .pre .1 .0 .table .short r inside in (
-        omega (arith, s .pre .0),
-        (
-          record {
-            ready = s .pre .1 .0;
-            shows = s .pre .1 .1;
-            inside = inside;
-            failing = f .failing inside;
-            flips = some;
-            enough = omega (arith, enough (chosen .before));
-            more = omega arith;
-          },
-          refl,
-        ),
-      )
+    -- what the call gives is what its literals give
+    call-gives : let chosen = c .before .before in
+        let a = chosen .before .before .before .args in
+        let clause = clauseAt (a .cells .now) (chosen .choose .result) in
+        settle (a .budget) (a .calls) (callFrom (a .k) (a .cells .now) (a .left) (stateIn (a .at))) ≡
+        settle (a .budget) (a .calls + 1) (literalsFrom (a .k) (a .cells .now) (a .left) (stateIn (a .at)) clause)
+    call-gives =
+        let chosen = c .before .before in
+        in-literals _ _ _ _ _ _ (chosen .choose .result) (enough (chosen .before)) (first chosen) (c .before .if2 .left) (c .if3 .left)
+
+  call-add-last-literals : call-lts.Need-add-last-literals (call-claims t) (call-at t) call.Post
+  call-add-last-literals c = omega (arith, enough (c .before .before .before .before))
+
+  call-last-literals-requires : call-lts.Need-last-literals-requires (call-claims t) (call-at t) call.Post
+  call-last-literals-requires c κs = rw (c .if4 .taken) at (tried-with (c .before))
 
   call-returns-4 : call-lts.Need-returns-4 (call-claims t) (call-at t) call.Post
-  unfolding stateIn
-  call-returns-4 c =
-      let chosen = c .before .before .before .before in
-      let more = c .before .before .before .if2 .left in
-      let flips = c .before .before .if3 .left in
-      c .literals .ensures
-      ∙ sym (in-literals _ _ _ _ _ _ (chosen .choose .result) (enough (chosen .before)) (first chosen) more flips)
+  call-returns-4 c = rw (call-gives (c .before .before), c .before .if4 .taken) (c .last-literals .ensures)
+
+  call-add-literals : call-lts.Need-add-literals (call-claims t) (call-at t) call.Post
+  call-add-literals c = omega (arith, enough (c .before .before .before .before .before))
+
+  call-literals-requires : call-lts.Need-literals-requires (call-claims t) (call-at t) call.Post
+  call-literals-requires c κs =
+      let d = c .before .before in
+      let s = d .before .before .before .before .before in
+      let w = tried-with d in
+      (omega (arith, s .pre .0, trying-row w .short, w .flips), (w, refl))
+
+  call-returns-5 : call-lts.Need-returns-5 (call-claims t) (call-at t) call.Post
+  call-returns-5 c = c .literals .ensures ∙ sym (call-gives (c .before .before .before))
 
 -- ---- its literals
 
@@ -285,39 +301,28 @@ module _ (t : ℕ) where
         settle (s .budget) (s .calls) (callFrom (s .k) (s .cells .now) (s .left - 1) (flip (stateIn (s .at)) (literalOf (s .literal))))
     given = in-tried _ _ _ _ _ _ _ tried
 
-  attempt-last-call-requires : attempt-lts.Need-last-call-requires (attempt-claims t) (attempt-at t) attempt.Post
-  attempt-last-call-requires c κs = let a = c .before .before .before .pre .1 .0 in (a .ready .table .room, a .known)
-
-  attempt-returns-2 : attempt-lts.Need-returns-2 (attempt-claims t) (attempt-at t) attempt.Post
-  attempt-returns-2 c =
-      let d = c .before .before in
-      let s = d .before .before in
-      let a = s .pre .1 .0 in
-      let last = c .last-call .ensures .answer _ (a .ready) (a .shows) (tryable d) in
-      (rw (given d, c .before .if2 .taken) last, s .pre .1 .1)
-
   attempt-flip-requires : attempt-lts.Need-flip-requires (attempt-claims t) (attempt-at t) attempt.Post
   attempt-flip-requires c κs =
-      let s = c .before .before .before .before in
+      let s = c .before .before .before in
       ((s .pre .1 .0 .ready .table .room, s .pre .1 .0 .known), s .pre .1 .1)
 
   attempt-flip-requires-2 : attempt-lts.Need-flip-requires-2 (attempt-claims t) (attempt-at t) attempt.Post
-  attempt-flip-requires-2 c κs = c .before .before .before .before .before .pre .1 .0 .known
+  attempt-flip-requires-2 c κs = c .before .before .before .before .pre .1 .0 .known
 
   attempt-sub-call : attempt-lts.Need-sub-call (attempt-claims t) (attempt-at t) attempt.Post
-  attempt-sub-call c = c .before .before .before .before .before .before .before .pre .1 .0 .flips
+  attempt-sub-call c = c .before .before .before .before .before .before .pre .1 .0 .flips
 
   attempt-call-requires : attempt-lts.Need-call-requires (attempt-claims t) (attempt-at t) attempt.Post
   attempt-call-requires c κs =
-      let d = c .before .before .before .before .before in
+      let d = c .before .before .before .before in
       let s = d .before .before in
       let a = s .pre .1 .0 in
       let shown = flip-shows (c .before .before .flip .ensures) (a .ready) (tryable d) (a .shows) in
       (omega (arith, s .pre .0, a .flips), (a .ready, rw (c .before .flip2 .ensures) shown))
 
-  attempt-returns-3 : attempt-lts.Need-returns-3 (attempt-claims t) (attempt-at t) attempt.Post
-  attempt-returns-3 c =
-      let d = c .before .before .before .before .before .before in
+  attempt-returns-2 : attempt-lts.Need-returns-2 (attempt-claims t) (attempt-at t) attempt.Post
+  attempt-returns-2 c =
+      let d = c .before .before .before .before .before in
       let s = d .before .before .args in
       let from : State → Answer = λ q. settle (s .budget) (s .calls) (callFrom (s .k) (s .cells .now) (s .left - 1) q) in
       let after = ap from (c .before .before .flip2 .ensures) in
@@ -330,13 +335,11 @@ pub +attempt+call+literals-spec : {M : Type 1} → statement M
     attempt-lts.spec (attempt-claims t) (attempt-at t) attempt.Post
     (attempt-tries-requires t)
     (attempt-returns t)
-    (attempt-last-call-requires t)
-    (attempt-returns-2 t)
     (attempt-flip-requires t)
     (attempt-flip-requires-2 t)
     (attempt-sub-call t)
     (attempt-call-requires t)
-    (attempt-returns-3 t))
+    (attempt-returns-2 t))
     (λ t.
     call-lts.spec (call-claims t) (call-at t) call.Post
     (call-exhausted-requires t)
@@ -346,9 +349,12 @@ pub +attempt+call+literals-spec : {M : Type 1} → statement M
     (call-returns-2 t)
     (call-add-t15 t)
     (call-returns-3 t)
+    (call-add-last-literals t)
+    (call-last-literals-requires t)
+    (call-returns-4 t)
     (call-add-literals t)
     (call-literals-requires t)
-    (call-returns-4 t))
+    (call-returns-5 t))
     (λ t.
     literals-lts.spec (literals-claims t) (literals-at t) literals.Post
     (literals-length-at-requires t)
