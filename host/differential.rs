@@ -1,5 +1,6 @@
-// An independent implementation of paper 01, compared with the proved library on many inputs: long and short, valid and
-// damaged. It shares no code with the crates. It prints how many answers of each kind agreed, and every disagreement.
+// An independent implementation of paper 01 and of paper 1 of 02, compared with the proved library on many inputs: long
+// and short, valid and damaged. It shares no code with the crates. It prints how many answers of each kind agreed, and every
+// disagreement.
 
 use std::collections::{BTreeSet, HashMap};
 
@@ -31,10 +32,20 @@ struct NumberReply {
     place: u32,
 }
 
+#[repr(C)]
+#[derive(Clone, Copy, Debug, Default, PartialEq)]
+struct CountsReply {
+    met: u32,
+    open: u32,
+    number: u32,
+    place: u32,
+}
+
 mod library {
-    use super::{AlikeReply, NumberReply, Reply};
+    use super::{AlikeReply, CountsReply, NumberReply, Reply};
     extern "C" {
         pub fn run(b: u32, s: u32, budget: u32, sheet: *const u8, length: usize) -> Reply;
+        pub fn clause_counts(sheet: *const u8, length: usize, clause: u32, marks: *const u32, flipped: *const u32) -> CountsReply;
         pub fn alike(a: *const u8, a_length: usize, b: *const u8, b_length: usize) -> AlikeReply;
         pub fn covering_code(t: u32, s: u32, table: *mut u16, cells: usize) -> NumberReply;
         pub fn ball_volume(t: u32, s: u32) -> NumberReply;
@@ -44,6 +55,13 @@ mod library {
 
 fn library_run(plan: (u32, u32), budget: u32, sheet: &[u8]) -> Reply {
     unsafe { library::run(plan.0, plan.1, budget, sheet.as_ptr(), sheet.len()) }
+}
+
+// Where the two arrays are equal they are lent as one buffer.
+fn library_counts(sheet: &[u8], asked: &Question) -> CountsReply {
+    let (marks, flipped) = ([asked.marks], [asked.flipped]);
+    let second = if marks == flipped { &marks } else { &flipped };
+    unsafe { library::clause_counts(sheet.as_ptr(), sheet.len(), asked.clause, marks.as_ptr(), second.as_ptr()) }
 }
 
 fn library_alike(a: &[u8], b: &[u8]) -> AlikeReply {
@@ -131,6 +149,69 @@ fn write(sheet: &Sheet) -> Vec<u8> {
     words.iter().flat_map(|w| w.to_le_bytes()).collect()
 }
 
+// ---- how a term stands
+
+// The number of a term, the marks, and the flipped variables.
+#[derive(Clone, Copy, Debug)]
+struct Question {
+    clause: u32,
+    marks: u32,
+    flipped: u32,
+}
+
+// Variable v has the v-th bit, the lowest being the first.
+fn bit(word: u32, v: u32) -> bool {
+    word >> (v - 1) & 1 == 1
+}
+
+fn met(l: &(u32, bool), marks: u32) -> bool {
+    bit(marks, l.0) == l.1
+}
+
+fn is_true(term: &[(u32, bool)], marks: u32) -> bool {
+    term.iter().any(|l| met(l, marks))
+}
+
+fn counts(sheet: &Result<Sheet, Refused>, asked: &Question) -> CountsReply {
+    let mut reply = CountsReply::default();
+    let terms = match sheet {
+        Ok(sheet) => &sheet.terms,
+        Err(r) => return CountsReply { number: r.0, place: r.1, ..reply },
+    };
+    let Some(term) = terms.get(asked.clause as usize) else {
+        return reply;
+    };
+    for l in term {
+        if met(l, asked.marks) {
+            reply.met += 1;
+        } else if !bit(asked.flipped, l.0) {
+            reply.open += 1;
+        }
+    }
+    reply
+}
+
+// What else paper 1 of 02 says of the two numbers of a term, for each saying whether it applies and whether it holds: the term is true
+// where met is above 0; with nothing flipped every literal is met or open; and while no flipped literal is met they are the ones
+// and the zeros of the term without its flipped variables.
+fn sayings(term: &[(u32, bool)], asked: &Question, got: &CountsReply) -> [(bool, bool); 3] {
+    type Part = Vec<(u32, bool)>;
+    let (gone, rest): (Part, Part) = term.iter().partition(|l| bit(asked.flipped, l.0));
+    let (ones, zeros): (Part, Part) = rest.iter().partition(|l| met(l, asked.marks));
+    let both = [got.met as usize, got.open as usize];
+    [
+        (true, is_true(term, asked.marks) == (got.met > 0)),
+        (asked.flipped == 0, both[0] + both[1] == term.len()),
+        (!is_true(&gone, asked.marks), both == [ones.len(), zeros.len()]),
+    ]
+}
+
+// Under the marks of a clear answer every term of the sheet has a literal that is met.
+fn clear_holds(bytes: &[u8], marks: u32) -> bool {
+    let count = read(bytes).map_or(0, |sheet| sheet.terms.len() as u32);
+    (0..count).all(|clause| library_counts(bytes, &Question { clause, marks, flipped: 0 }).met > 0)
+}
+
 // ---- the code, straight from its definition
 
 fn greedy(t: u32, s: u32) -> Vec<u32> {
@@ -186,8 +267,7 @@ impl Search<'_> {
             return Seen::Spent;
         }
         self.calls += 1;
-        let met = |l: &(u32, bool)| (marks >> (l.0 - 1) & 1 == 1) == l.1;
-        let Some(term) = self.sheet.terms.iter().find(|t| !t.iter().any(met)) else {
+        let Some(term) = self.sheet.terms.iter().find(|t| !is_true(t, marks)) else {
             return Seen::Found(marks);
         };
         if left == 0 {
@@ -322,9 +402,12 @@ fn codes_agree(codes: &mut Codes) -> bool {
 fn nothing_agrees() -> bool {
     let none = std::ptr::null();
     let run = unsafe { library::run(3, 1, 9, none, 0) };
+    let word = [5];
+    let counts = unsafe { library::clause_counts(none, 0, 0, word.as_ptr(), word.as_ptr()) };
     let alike = unsafe { library::alike(none, 0, none, 0) };
     let code = unsafe { library::covering_code(1, 0, std::ptr::null_mut(), 0) };
     run == Reply { number: 2, ..Reply::default() }
+        && counts == CountsReply { number: 2, ..CountsReply::default() }
         && alike == AlikeReply { sheet: 1, number: 2, ..AlikeReply::default() }
         && code == NumberReply { number: 9, ..NumberReply::default() }
 }
@@ -453,57 +536,144 @@ fn random_plan(r: &mut Random) -> (u32, u32) {
     (b, s)
 }
 
-fn main() {
-    let inputs: u64 = std::env::args().nth(1).map_or(200_000, |a| a.parse().expect("a number of inputs"));
-    let mut r = Random(0x9e37_79b9_7f4a_7c15);
-    let mut codes = Codes(HashMap::new());
-    let mut kinds = [0u64; 4];
-    let mut numbers = [0u64; 10];
-    let mut failed = 0u64;
-    let mut pairs = [0u64; 3];
-    if !sources_agree() {
-        failed += 1;
-        println!("an example of the sources differs");
+// Two terms of the sheet, and for an eighth of the sheets also the first, the last, and two past the last. A sheet that is
+// refused has no terms: there the numbers are those of 1,024 terms.
+fn random_clauses(r: &mut Random, sheet: &Result<Sheet, Refused>) -> Vec<u32> {
+    let count = sheet.as_ref().map_or(1024, |sheet| sheet.terms.len() as u32);
+    let mut clauses: Vec<u32> = (0..2).map(|_| r.below(count.max(1) as u64) as u32).collect();
+    if r.below(8) == 0 {
+        clauses.extend([0, count.saturating_sub(1), count, u32::MAX]);
     }
-    if !nothing_agrees() {
-        failed += 1;
-        println!("an answer to an empty buffer differs");
-    }
-    if !codes_agree(&mut codes) {
-        failed += 1;
-        println!("codes, volumes or floors differ");
-    }
-    for _ in 0..inputs {
-        let bytes = random_bytes(&mut r);
-        if r.below(4) == 0 {
-            let other = relative(&mut r, &bytes);
-            let expected = alike(&bytes, &other);
-            pairs[expected.answer as usize] += 1;
-            if library_alike(&bytes, &other) != expected {
-                failed += 1;
-                println!("alike {:?} {:?}: expected {:?}", bytes, other, expected);
-            }
+    clauses
+}
+
+// Marks and flipped variables of all 32 bits, whatever the sheet has. A quarter of the sets spares the literals that are met.
+fn random_question(r: &mut Random, clause: u32, term: &[(u32, bool)]) -> Question {
+    let marks = match r.below(12) {
+        0 => 0,
+        1 => u32::MAX,
+        _ => r.next() as u32,
+    };
+    let some = r.next() as u32;
+    let spared = term.iter().filter(|l| met(l, marks)).fold(some, |f, l| f & !(1 << (l.0 - 1)));
+    let flipped = match r.below(8) {
+        0 => 0,
+        1 => u32::MAX,
+        2 => marks,
+        3 => some & r.next() as u32,
+        4 | 5 => spared,
+        _ => some,
+    };
+    Question { clause, marks, flipped }
+}
+
+// ---- the comparison
+
+// How many answers of each kind there were, how often each saying applied, and how many disagreements.
+#[derive(Default)]
+struct Totals {
+    kinds: [u64; 4],
+    numbers: [u64; 10],
+    pairs: [u64; 3],
+    terms: [u64; 4],
+    sayings: [u64; 3],
+    cleared: u64,
+    failed: u64,
+}
+
+impl Totals {
+    fn check(&mut self, fine: bool, tell: impl FnOnce() -> String) {
+        if !fine {
+            self.failed += 1;
+            println!("{}", tell());
         }
-        let plan = random_plan(&mut r);
+    }
+
+    fn fixed(&mut self, codes: &mut Codes) {
+        self.check(sources_agree(), || "an example of the sources differs".into());
+        self.check(nothing_agrees(), || "an answer to an empty buffer differs".into());
+        self.check(codes_agree(codes), || "codes, volumes or floors differ".into());
+    }
+
+    fn alike(&mut self, r: &mut Random, bytes: &[u8]) {
+        let other = relative(r, bytes);
+        let expected = alike(bytes, &other);
+        self.pairs[expected.answer as usize] += 1;
+        let fine = library_alike(bytes, &other) == expected;
+        self.check(fine, || format!("alike {:?} {:?}: expected {:?}", bytes, other, expected));
+    }
+
+    // The answer of the library is handed on.
+    fn run(&mut self, r: &mut Random, codes: &mut Codes, bytes: &[u8]) -> Reply {
+        let plan = random_plan(r);
         let high = [0, 1, 2, 30, 400, 3000][r.below(6) as usize];
         let mut budget = r.below(high + 1) as u32;
-        let mut expected = run(&mut codes, plan, budget, &bytes);
+        let mut expected = run(codes, plan, budget, bytes);
         if expected.verdict != 0 && expected.verdict != 3 && r.below(2) == 0 {
             // the last call needed is not one too many, and one call fewer is not enough
             budget = expected.calls - r.below(2) as u32;
-            expected = run(&mut codes, plan, budget, &bytes);
+            expected = run(codes, plan, budget, bytes);
         }
-        let got = library_run(plan, budget, &bytes);
-        kinds[expected.verdict as usize] += 1;
-        numbers[expected.number as usize] += 1;
-        if got != expected {
-            failed += 1;
-            println!("plan {:?} budget {} sheet {:?}: expected {:?}, got {:?}", plan, budget, bytes, expected, got);
+        let got = library_run(plan, budget, bytes);
+        self.kinds[expected.verdict as usize] += 1;
+        self.numbers[expected.number as usize] += 1;
+        self.check(got == expected, || {
+            format!("plan {:?} budget {} sheet {:?}: expected {:?}, got {:?}", plan, budget, bytes, expected, got)
+        });
+        got
+    }
+
+    fn terms(&mut self, r: &mut Random, bytes: &[u8]) {
+        let sheet = read(bytes);
+        for clause in random_clauses(r, &sheet) {
+            let term = sheet.as_ref().ok().and_then(|sheet| sheet.terms.get(clause as usize));
+            let asked = random_question(r, clause, term.map_or(&[], |t| t));
+            let expected = counts(&sheet, &asked);
+            let got = library_counts(bytes, &asked);
+            let kind = term.map_or(sheet.is_ok() as usize, |t| 2 + is_true(t, asked.marks) as usize);
+            self.terms[kind] += 1;
+            let said = term.map_or([(false, false); 3], |t| sayings(t, &asked, &got));
+            (0..3).for_each(|i| self.sayings[i] += said[i].0 as u64);
+            let fine = got == expected && said.iter().all(|s| !s.0 || s.1);
+            self.check(fine, || format!("{:?} sheet {:?}: expected {:?}, got {:?} {:?}", asked, bytes, expected, got, said));
         }
     }
-    println!("{} inputs: refused {} clear {} none {} spent {}", inputs, kinds[0], kinds[1], kinds[2], kinds[3]);
-    println!("refusals 1 to 8: {:?}", &numbers[1..9]);
-    println!("pairs: refused {} alike {} different {}", pairs[0], pairs[1], pairs[2]);
-    println!("differential: {} passed, {} failed", inputs - failed, failed);
-    std::process::exit((failed != 0) as i32);
+
+    fn cleared(&mut self, bytes: &[u8], marks: u32) {
+        self.cleared += 1;
+        self.check(clear_holds(bytes, marks), || format!("clear with marks {} sheet {:?}: a term has none met", marks, bytes));
+    }
+
+    fn print(&self, inputs: u64) {
+        let Totals { kinds, numbers, pairs, terms, sayings, .. } = self;
+        println!("{} inputs: refused {} clear {} none {} spent {}", inputs, kinds[0], kinds[1], kinds[2], kinds[3]);
+        println!("refusals 1 to 8: {:?}", &numbers[1..9]);
+        println!("pairs: refused {} alike {} different {}", pairs[0], pairs[1], pairs[2]);
+        println!("terms: refused {} past the last {} false {} true {}", terms[0], terms[1], terms[2], terms[3]);
+        println!("nothing flipped {} nothing flipped met {} clear sheets {}", sayings[1], sayings[2], self.cleared);
+        println!("differential: {} passed, {} failed", inputs.saturating_sub(self.failed), self.failed);
+    }
+}
+
+fn main() {
+    let inputs: u64 = std::env::args().nth(1).map_or(200_000, |a| a.parse().expect("a number of inputs"));
+    let mut r = Random(0x9e37_79b9_7f4a_7c15);
+    let mut questions = Random(0x2545_f491_4f6c_dd1d);
+    let mut codes = Codes(HashMap::new());
+    let mut totals = Totals::default();
+    totals.fixed(&mut codes);
+    for _ in 0..inputs {
+        let bytes = random_bytes(&mut r);
+        if r.below(4) == 0 {
+            totals.alike(&mut r, &bytes);
+        }
+        let got = totals.run(&mut r, &mut codes, &bytes);
+        totals.terms(&mut questions, &bytes);
+        // each term reads the whole sheet again: the longer the sheet, the rarer
+        if got.verdict == 1 && questions.below(1 + bytes.len() as u64 / 256) == 0 {
+            totals.cleared(&bytes, got.marks);
+        }
+    }
+    totals.print(inputs);
+    std::process::exit((totals.failed != 0) as i32);
 }

@@ -36,14 +36,24 @@ prints "$(cat crates/clearing/stdout)" 3 1 9 target/host/sheet
 prints "$(cat crates/clearing/stdout)" 3 1 4294967295 target/host/sheet
 prints "batch 70000 spent calls 1 marks 0" 03 1 1 target/host/sheet
 prints "refused 8 place 0" 4294967295 1 9 target/host/sheet
+prints "clause 1 met 1 open 1
+clause 2 met 1 open 0
+clause 3 met 1 open 0" counts 1 1 target/host/sheet
+prints "clause 1 met 0 open 2
+clause 2 met 2 open 0
+clause 3 met 1 open 0" counts 0 0 target/host/sheet
+prints "refused 2 place 0" counts 0 0 /dev/null
 for bad in 4294967296 99999999999999999999999999 -1 +1 '' ' 1' 1x 0x1 1.0; do
     declines "$bad" 1 9 target/host/sheet
     declines 3 "$bad" 9 target/host/sheet
     declines 3 1 "$bad" target/host/sheet
+    declines counts "$bad" 1 target/host/sheet
+    declines counts 1 "$bad" target/host/sheet
 done
 declines 3 1 9
+declines counts 1 target/host/sheet
 declines 3 1 9 target/host/no-such-sheet
 declines 3 1 9 target/host
-echo "host: printed the sample's line, and declined what is no number"
+echo "host: printed the sample's line and how its clauses stand, and declined what is no number"
 rustc --edition 2021 -O host/differential.rs -L target/staticlib -l static=engine -o target/host/differential
 target/host/differential "${1:-200000}"

@@ -3,10 +3,12 @@
    Every function answers for every input, allocates nothing, keeps no state, and touches nothing but its stack and the
    buffers that it is lent. The host sees to this, which nothing checks:
 
-   - A sheet's buffer has at least `length` bytes and a table at least `cells` cells. They must be valid during the call, and
-     need live no longer: the library keeps no pointer. Meanwhile nobody writes them, and nobody reads the table. A pointer may
-     be null where its length is 0. The two sheets of alike may share a buffer.
-   - There is enough stack: run takes about 100 KB at its deepest, alike 74 KB, covering_code 32 KB (docs/BENCH.md).
+   - A sheet's buffer has at least `length` bytes, a table at least `cells` cells, and an array its number of words. They must be
+     valid during the call, and need live no longer: the library keeps no pointer. Meanwhile nobody writes them, and nobody reads
+     the table. A pointer may be null where its length is 0. The two sheets of alike, and the two arrays of clause_counts, may
+     share a buffer.
+   - There is enough stack: run takes about 115 KB at its deepest, alike 74 KB, clause_counts 37 KB, covering_code 32 KB
+     (docs/BENCH.md).
 
    In every reply `number` and `place` are the refusal's number and place (README.md has the table); both are 0 where nothing
    is refused, and a refusal is told by number not 0. What does not belong to an answer is 0. */
@@ -36,6 +38,21 @@ struct reply {
 
 /* Decides the sheet with blocks of block_length variables and codes of the radius given, within budget calls. */
 struct reply run(uint32_t block_length, uint32_t radius, uint32_t budget, const uint8_t *sheet, size_t length);
+
+/* How a clause stands: how many of its literals are met, and how many are open, that is not met and with a variable that is not
+   flipped. */
+struct counts_reply {
+    uint32_t met;
+    uint32_t open;
+    uint32_t number;
+    uint32_t place;
+};
+
+/* The two numbers of a clause of the sheet, the first being clause 0, under an assignment and a set of flipped variables: bit
+   v - 1 belongs to variable v, and bits that belong to no variable do not matter. The clause is true where met is above 0. Past
+   the last clause both numbers are 0. */
+struct counts_reply clause_counts(const uint8_t *sheet, size_t length, uint32_t clause, const uint32_t marks[1],
+                                  const uint32_t flipped[1]);
 
 /* What an answer of alike is; a refusal is ENGINE_REFUSED. */
 enum { ENGINE_ALIKE = 1, ENGINE_DIFFERENT = 2 };

@@ -4,7 +4,7 @@ use mathlib.Core.Bool.{true, false}
 use mathlib.Core.List.{List, [], _∷_, map}
 use Prim.Native.Nat.{ℕ, _^_}
 use lib.ListN.{take, replicate}
-use Rattle.words.specs.Lists.{some, every, keep, first, span}
+use Rattle.words.specs.Lists.{some, every, keep, count, first, span}
 use Rattle.words.specs.Bits.{bit, toggle, distance}
 use Rattle.formula.specs.Formula as Formula
 use Rattle.formula.specs.Formula.{Literal, Clause, Formula}
@@ -107,7 +107,7 @@ examples =
 -- Each answer is the one that the definitions give.
 pub examples-hold : map (λ r. ask (r .question)) examples ≡ map (λ r. r .answer) examples
 unfolding examples ask numbers answerNumbers wordsIn
-    some every keep first span bit toggle distance
+    some every keep count first span bit toggle distance
     Formula.bitOf Formula.met Formula.someMet Formula.allTrue Formula.names Formula.literalWord Formula.literalOf
     Sheet.wordOf Sheet.words Sheet.kind Sheet.value Sheet._>>=_ Sheet._>>_ Sheet.refuse-when
     Sheet.take-word Sheet.take-number Sheet.take-literal
@@ -117,7 +117,7 @@ unfolding examples ask numbers answerNumbers wordsIn
     Volume.choose Volume.volume Volume.floor
     Operations.coded? Operations.fits? codeAnswer Operations.written codeTable Operations.measured? volumeAnswer floorAnswer
     Explore.calls Explore.plus Explore.after Explore.try Explore.call Explore.explore
-    Ball.reading Ball.isFlipped Ball.flip Ball.isTried Ball.tried Ball.branch Ball.select Ball.skip Ball.rule Ball.ballTree Ball.ballSearch
+    Ball.isFlipped Ball.isOpen Ball.reading Ball.true? Ball.isTrue Ball.flip Ball.isTried Ball.tried Ball.branch Ball.select Ball.skip Ball.rule Ball.ballTree Ball.ballSearch
     Search.blockOf Search.shortBlock Search.blocks Search.summedRadius Search.centreCount Search.centreAt
     Search.searchOf Search.ball Search.run
     Budget.whole Budget.answer

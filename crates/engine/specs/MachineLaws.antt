@@ -1,11 +1,12 @@
--- The laws that `decide` cites, one for each way through it.
+-- The laws that `decide` and `clause_counts` cite, one for each way through them.
 use mathlib.Core.Path.{_≡_}
 use mathlib.Core.Bool.{true, false}
-use mathlib.Core.List.{List}
+use mathlib.Core.List.{List, []}
 use Prim.Native.Nat.{ℕ, _≤_}
+use lib.ListN.{getD}
 use Rattle.words.specs.Bits.{width}
 use Rattle.words.specs.declared.Refusal.{Refusal}
-use Rattle.formula.specs.Machine.{SheetRead, Table}
+use Rattle.formula.specs.Machine.{SheetRead, Table, held}
 use Rattle.formula.specs.ReadingLaws.{sheet-accepted, sheet-refused}
 use Rattle.formula.specs.ParseAccepted.{parse-well-formed}
 use Rattle.formula.specs.declared.Reading.{Reading}
@@ -14,9 +15,11 @@ use Rattle.code.specs.Code.{code}
 use Rattle.code.specs.Operations.{coded?}
 use Rattle.code.specs.OperationLaws.{coded-bounds}
 use Rattle.tree.specs.Budget.{Answer, answer}
+use Rattle.search.specs.Ball.{State, Reading as ClauseReading, reading}
 use Rattle.search.specs.Run.{plan, blocks, searchOf, run}
 use Rattle.search.specs.Machine.{searchIn}
 use Rattle.engine.specs.Answers.{outcome, refusal, answered, decided, decision, BAD-PLAN}
+use Rattle.engine.specs.Replies.{clauseCountsOf, clauseCountsTo}
 
 -- the numbers of an accepted plan
 pub plan-bounds : (size radius : ℕ) → coded? size radius ≡ true → (1 ≤ size) × (size ≤ 12) × (radius ≤ size)
@@ -47,3 +50,19 @@ module _ (size radius A : ℕ) (s : List ℕ) where
         record { batch = b; verdict = answered a } ≡ decision (plan size radius) A s
     unfolding decision decided outcome searchIn searchOf
     decide-searched b n k e a g = rw (good, sheet-accepted s r cells h b n k e .0, g)
+
+-- ---- a clause's reading
+
+module _ (s : List ℕ) (i : ℕ) (at : State) (r : Reading) (cells : List ℕ) (h : SheetRead s r cells) where
+  -- the sheet's refusal,
+  pub counts-declined : (q : Refusal) → r ≡ Stopped q →
+      record { met = 0; «open» = 0; number = q .number; place = q .place } ≡ clauseCountsTo s i at
+  unfolding clauseCountsTo clauseCountsOf
+  counts-declined q e = rw (sheet-refused s r cells h q e)
+
+  -- and otherwise the reading in the table that was read.
+  pub counts-read : (b n k : ℕ) → r ≡ Accepted b n k →
+      (x : ClauseReading) → x ≡ reading at (getD (held k cells) i []) →
+      record { met = x .met; «open» = x .«open»; number = 0; place = 0 } ≡ clauseCountsTo s i at
+  unfolding clauseCountsTo clauseCountsOf
+  counts-read b n k e x g = rw (sheet-accepted s r cells h b n k e .0, g)

@@ -1,14 +1,19 @@
--- The numbers of an answer on codes and on two sheets, as a host in C has them. In every reply `number` and `place` are the refusal's,
--- and what does not belong to an answer is 0.
-use mathlib.Core.List.{List}
+-- The numbers of an answer on codes, on two sheets and on a clause, as a host in C has them. In every reply `number` and `place` are
+-- the refusal's, and what does not belong to an answer is 0.
+use mathlib.Core.List.{List, []}
 use Prim.Native.Nat.{ℕ}
+use lib.ListN.{getD}
+use Rattle.formula.specs.Formula.{Formula}
+use Rattle.formula.specs.Sheet.{Result, accepted, refused, parse}
 use Rattle.code.specs.declared.Answer.{Answer}
 use Rattle.code.specs.declared.Answer.the-variants.{Number, Refused}
 use Rattle.alike.specs.declared.Comparison.{Comparison}
 use Rattle.alike.specs.declared.Comparison.the-variants.{Alike, Different, Refused as Declined}
 use Rattle.alike.specs.Alike.{comparison}
+use Rattle.search.specs.Ball.{State, reading}
 use Rattle.engine.specs.declared.exports.NumberReply.{NumberReply}
 use Rattle.engine.specs.declared.exports.AlikeReply.{AlikeReply}
+use Rattle.engine.specs.declared.exports.CountsReply.{CountsReply}
 use Rattle.engine.specs.Answers.{REFUSED}
 
 -- ---- codes, volumes and floors
@@ -35,3 +40,15 @@ comparisonOf (Declined sheet refusal) = record { answer = REFUSED; sheet = sheet
 -- What `alike` gives.
 unfoldable pub alikeTo : List ℕ → List ℕ → AlikeReply
 alikeTo s t = comparisonOf (comparison s t)
+
+-- ---- a clause
+
+-- The reading of clause i, counted from 0; past the last clause it is that of no literal.
+unfoldable pub clauseCountsOf : ℕ → State → Result Formula → CountsReply
+clauseCountsOf i s (accepted f) =
+    let r = reading s (getD (f .clauses) i []) in record { met = r .met; «open» = r .«open»; number = 0; place = 0 }
+clauseCountsOf i s (refused number place) = record { met = 0; «open» = 0; number = number; place = place }
+
+-- What `clause_counts` gives.
+unfoldable pub clauseCountsTo : List ℕ → ℕ → State → CountsReply
+clauseCountsTo sheet i s = clauseCountsOf i s (parse sheet)

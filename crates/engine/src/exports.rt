@@ -1,10 +1,13 @@
-// The operations on codes and on two sheets for a host in C (include/engine.h): the answers of the
-// crates code and alike, in numbers.
+// The operations on codes, on two sheets and on a clause for a host in C (include/engine.h): the
+// answers of the crates code, alike and search, in numbers.
 use alike::Comparison;
 use code::Answer;
+use formula::Reading;
+use words::Assignment;
 ghost use mathlib.Core.Path.{_≡_};
 ghost use Rattle.code.specs.Operations.{codeAnswer, codeTable, volumeAnswer, floorAnswer};
-ghost use Rattle.engine.specs.Replies.{resultOf, comparisonOf, alikeTo};
+ghost use Rattle.engine.specs.Replies.{resultOf, comparisonOf, alikeTo, clauseCountsTo};
+ghost use Rattle.words.specs.Bits.{fromWords};
 
 // The answer's number in a reply (specs/Replies.antt); a refusal's is that of `run`.
 pub const ALIKE: u32 = 1;
@@ -24,6 +27,15 @@ pub struct NumberReply {
 pub struct AlikeReply {
     pub answer: u32,
     pub sheet: u32,
+    pub number: u32,
+    pub place: u32,
+}
+
+// How many literals of a clause are met and how many are open, or a refusal.
+#[repr(C)]
+pub struct CountsReply {
+    pub met: u32,
+    pub open: u32,
     pub number: u32,
     pub place: u32,
 }
@@ -97,4 +109,36 @@ pub extern "C" fn alike(first: &[u8], second: &[u8]) -> AlikeReply
     ensures { λ r. ⌜ r ≡ alikeTo (now (first .entry)) (now (second .entry)) ⌝ }
 {
     compared(alike::compare(first, second))
+}
+
+#[no_mangle]
+pub extern "C" fn clause_counts(
+    sheet: &[u8],
+    clause: u32,
+    marks: &[u32; words::WORDS],
+    flipped: &[u32; words::WORDS],
+) -> CountsReply
+    ensures { λ r. ⌜ r ≡ clauseCountsTo (now (sheet .entry)) clause
+        (record { assignment = fromWords (now (marks .entry)); flipped = fromWords (now (flipped .entry)) }) ⌝ }
+{
+    let mut table = formula::empty_table();
+    match formula::read_sheet(sheet, &mut table) {
+        Reading::Accepted { batch, n, clauses } => {
+            let assignment = Assignment::from_words(marks);
+            let set = Assignment::from_words(flipped);
+            let reading = search::clause_reading(&table, clauses, clause as usize, assignment, set);
+            CountsReply {
+                met: reading.met,
+                open: reading.open,
+                number: 0,
+                place: 0,
+            }
+        }
+        Reading::Refused(refusal) => CountsReply {
+            met: 0,
+            open: 0,
+            number: refusal.number,
+            place: refusal.place,
+        },
+    }
 }

@@ -2,9 +2,11 @@
 mod exports;
 
 pub use exports::AlikeReply;
+pub use exports::CountsReply;
 pub use exports::NumberReply;
 pub use exports::alike;
 pub use exports::ball_volume;
+pub use exports::clause_counts;
 pub use exports::covering_code;
 pub use exports::covering_floor;
 use formula::Reading;

@@ -7,12 +7,12 @@ use native.Mathlib.Omega.{arith}
 use lib.Dec.{eqb}
 use lib.Bits.{differ, xor-step, xor-zero-r}
 use borrow.Author.Tests.{ne-eqb, eqb-true, eqb-false, not-true}
-use Rattle.words.specs.Lists.{some, keep, count}
+use Rattle.words.specs.Lists.{In, some, keep, count}
 use Rattle.words.specs.ListLaws.{and-left, and-right}
 use Rattle.words.specs.Bits.{bit, toggle}
-use Rattle.words.specs.BitLaws.{digit, by-parity, same-test, bit-zero, bit-toggle-same, bit-toggle-other}
-use Rattle.words.specs.CountLaws.{count-cons, count-le, count-moves, count-adds, count-same, count-zero, some-count, some-digit}
-use Rattle.formula.specs.Formula.{Literal, Clause, WellFormedClause, met, someMet, bitOf, names, once, literalWord, literalOf}
+use Rattle.words.specs.BitLaws.{digit, by-parity, same-test, bit-toggle-same, bit-toggle-other}
+use Rattle.words.specs.CountLaws.{count-cons, count-le, count-moves, count-adds, count-same, count-none, count-zero, some-digit}
+use Rattle.formula.specs.Formula.{Literal, Clause, WellFormedClause, met, bitOf, names, once, literalWord, literalOf}
 use Rattle.formula.specs.Counts.{signCount, holds, opposite, Steps}
 
 -- ---- the literals of one variable
@@ -46,7 +46,8 @@ is-split w l = go (l .positive)
 once-le : (v : ℕ) (c : Clause) → once c ≡ true → count (names? v) c ≤ 1
 unfolding once names count keep
 once-le v [] e = zero-le
-once-le v (l ∷ c) e = rw (count-cons (names? v) l c) (go (once-le v c (and-right (not (names (l .variable) c)) (once c) e)) (names? v l) refl)
+once-le v (l ∷ c) e =
+    rw (count-cons (names? v) l c) (go (once-le v c (and-right (not (names (l .variable) c)) (once c) e)) (names? v l) refl)
   where
     go : count (names? v) c ≤ 1 → (b : Bool) → names? v l ≡ b → digit b + count (names? v) c ≤ 1
     go below true q =
@@ -78,7 +79,7 @@ opposite-split w l =
     go false = by-parity (λ d. Bool·beq false (eqb (1 - d) 0) ≡ not (Bool·beq false (eqb d 0))) w (λ e. refl) (λ e. refl)
 
 -- a clause holds a literal or its opposite as often as it names the variable
-both-count : (w : ℕ) (c : Clause) → once c ≡ true → count (is w) c + count (is (opposite w)) c ≤ 1
+pub both-count : (w : ℕ) (c : Clause) → once c ≡ true → count (is w) c + count (is (opposite w)) c ≤ 1
 both-count w c o =
     let sum : count (names? (w / 2)) c ≡ count (is w) c + count (is (opposite w)) c =
     count-adds (is w) (names? (w / 2)) (is (opposite w)) c
@@ -89,68 +90,103 @@ both-count w c o =
     go true b = omega arith
     go false b = omega arith
 
--- One literal: met after the toggle, or the opposite of w, as often as met before, or w.
-literal-toggles : (w m : ℕ) (l : Literal) → 2 ≤ w → 1 ≤ l .variable → met m (literalOf w) ≡ false →
-    digit (met (toggle m (bitOf (literalOf w))) l) + digit (is (opposite w) l) ≡ digit (met m l) + digit (is w l)
-unfolding met bitOf literalOf
-literal-toggles w m l h k u = rw (opposite-split w l, is-split w l) (go (names? (w / 2) l) refl)
-  where
-    s : Bool
-    s = eqb (w % 2) 0
+-- A literal beside the one with the word w. Of the same variable:
+module _ (w : ℕ) (l : Literal) where
+  module _ (e : names? (w / 2) l ≡ true) where
+    pub same-bit : bitOf l ≡ bitOf (literalOf w)
+    unfolding bitOf literalOf
+    same-bit = ap (λ (v : ℕ). v - 1) (eqb-true (l .variable) (w / 2) e)
 
-    changed : (b p t : Bool) → Bool·beq b t ≡ false →
-        digit (Bool·beq (not b) p) + digit (not (Bool·beq p t) && true) ≡ digit (Bool·beq b p) + digit (Bool·beq p t && true)
-    changed true p true e = absurd (true≢false e)
-    changed true true false e = refl
-    changed true false false e = refl
-    changed false true true e = refl
-    changed false false true e = refl
-    changed false p false e = absurd (true≢false e)
+    same-opposite : is (opposite w) l ≡ not (is w l)
+    same-opposite = opposite-split w l ∙ rw (is-split w l, e) (go (Bool·beq (l .positive) (eqb (w % 2) 0)))
+      where
+        go : (s : Bool) → (not s && true) ≡ not (s && true)
+        go true = refl
+        go false = refl
+
+    -- where that one is not met, it is that one exactly if it is not met,
+    pub same-is : (m : ℕ) → met m (literalOf w) ≡ false → is w l ≡ not (met m l)
+    unfolding met literalOf
+    same-is m u = is-split w l ∙ rw (e, same-bit) (go (bit m (bitOf (literalOf w))) (l .positive) (eqb (w % 2) 0) u)
+      where
+        go : (b p t : Bool) → Bool·beq b t ≡ false → (Bool·beq p t && true) ≡ not (Bool·beq b p)
+        go true p true d = absurd (true≢false d)
+        go true true false d = refl
+        go true false false d = refl
+        go false true true d = refl
+        go false false true d = refl
+        go false p false d = absurd (true≢false d)
+
+    -- and the toggle turns it;
+    pub same-met : (m : ℕ) → met (toggle m (bitOf (literalOf w))) l ≡ not (met m l)
+    unfolding met
+    same-met m = rw (same-bit, bit-toggle-same m (bitOf (literalOf w))) (go (bit m (bitOf (literalOf w))) (l .positive))
+      where
+        go : (b p : Bool) → Bool·beq (not b) p ≡ not (Bool·beq b p)
+        go true true = refl
+        go true false = refl
+        go false true = refl
+        go false false = refl
+
+  -- of another variable: the toggle leaves it.
+  module _ (e : names? (w / 2) l ≡ false) where
+    pub other-is : is w l ≡ false
+    other-is = is-split w l ∙ rw e (and-false (Bool·beq (l .positive) (eqb (w % 2) 0)))
+
+    other-opposite : is (opposite w) l ≡ false
+    other-opposite = opposite-split w l ∙ rw e (and-false (not (Bool·beq (l .positive) (eqb (w % 2) 0))))
+
+    module _ (h : 2 ≤ w) (k : 1 ≤ l .variable) (m : ℕ) where
+      pub other-bit : bit (toggle m (bitOf (literalOf w))) (bitOf l) ≡ bit m (bitOf l)
+      unfolding bitOf literalOf
+      other-bit = bit-toggle-other m (w / 2 - 1) (l .variable - 1) (λ q. eqb-false (l .variable) (w / 2) e (omega arith))
+
+      pub other-met : met (toggle m (bitOf (literalOf w))) l ≡ met m l
+      unfolding met
+      other-met = rw other-bit
+
+-- One literal: met after the toggle, or the opposite of w, as often as met before, or w.
+pub literal-toggles : (w m : ℕ) (l : Literal) → 2 ≤ w → 1 ≤ l .variable → met m (literalOf w) ≡ false →
+    digit (met (toggle m (bitOf (literalOf w))) l) + digit (is (opposite w) l) ≡ digit (met m l) + digit (is w l)
+literal-toggles w m l h k u = go (names? (w / 2) l) refl
+  where
+    turned : (x : Bool) → digit (not x) + digit (not (not x)) ≡ digit x + digit (not x)
+    turned true = refl
+    turned false = refl
 
     go : (b : Bool) → names? (w / 2) l ≡ b →
-        digit (met (toggle m (w / 2 - 1)) l) + digit (not (Bool·beq (l .positive) s) && b)
-        ≡ digit (met m l) + digit (Bool·beq (l .positive) s && b)
-    go true e = rw (eqb-true (l .variable) (w / 2) e, bit-toggle-same m (w / 2 - 1)) (changed (bit m (w / 2 - 1)) (l .positive) s u)
-    go false e =
-        let apart : (w / 2 - 1 ≡ l .variable - 1 → ⊥) = λ q. eqb-false (l .variable) (w / 2) e (omega arith) in
-        let same = Bool·beq (l .positive) s in
-        rw (bit-toggle-other m (w / 2 - 1) (l .variable - 1) apart, and-false (not same), and-false same)
+        digit (met (toggle m (bitOf (literalOf w))) l) + digit (is (opposite w) l) ≡ digit (met m l) + digit (is w l)
+    go true e = rw (same-met w l e m, same-opposite w l e, same-is w l e m u) (turned (met m l))
+    go false e = rw (other-met w l e h k m, other-opposite w l e, other-is w l e)
 
 -- at most one of a literal and its opposite stands in a clause, and at most once
-module _ {n : ℕ} (w : ℕ) (c : Clause) (f : WellFormedClause n c) where
-  pub holds-digit : digit (holds w c) ≡ count (is w) c
-  unfolding holds
-  holds-digit = some-digit (is w) c (omega (arith, both-count w c (f .once)))
+pub holds-digit : {n : ℕ} (w : ℕ) (c : Clause) → WellFormedClause n c → digit (holds w c) ≡ count (is w) c
+unfolding holds
+holds-digit w c f = some-digit (is w) c (omega (arith, both-count w c (f .once)))
 
-  opposite-digit : digit (holds (opposite w) c) ≡ count (is (opposite w)) c
-  unfolding holds
-  opposite-digit = some-digit (is (opposite w)) c (omega (arith, both-count w c (f .once)))
+-- A number that counts the literals which pass a test moves with two words, if each literal does.
+pub count-steps : {n : ℕ} (up down : ℕ) (c : Clause) → WellFormedClause n c → count (is up) c + count (is down) c ≤ 1 →
+    (p q : Literal → Bool) → ((l : Literal) → In l c → digit (q l) + digit (is down l) ≡ digit (p l) + digit (is up l)) →
+    Steps up down (count p) (count q) c
+count-steps up down c f apart p q each =
+    let moves = count-moves p q (is up) (is down) c each in
+    record {
+      sum = omega (arith, holds-digit up c f, holds-digit down c f, moves);
+      apart = omega (arith, apart, holds-digit up c f, holds-digit down c f);
+      small = omega (arith, count-le q c, f .short);
+    }
 
-  -- The toggle that makes the literal met adds one where it stands, and takes one where its opposite stands.
-  pub toggle-steps : (m : ℕ) → 2 ≤ w → met m (literalOf w) ≡ false →
-      Steps w (opposite w) (count (met m)) (count (met (toggle m (bitOf (literalOf w))))) c
-  toggle-steps m h u =
-      let m′ = toggle m (bitOf (literalOf w)) in
-      let moves = count-moves (met m) (met m′) (is w) (is (opposite w)) c (λ l i. literal-toggles w m l h (f .known l i .0) u) in
-      record {
-        sum = omega (arith, holds-digit, opposite-digit, moves);
-        apart = omega (arith, both-count w c (f .once), holds-digit, opposite-digit);
-        small = omega (arith, count-le (met m′) c, f .short);
-      }
-
--- a clause is true where its count is not 0
-pub true-count : (m : ℕ) (c : Clause) → someMet m c ≡ not (eqb (count (met m) c) 0)
-unfolding someMet
-true-count m c = some-count (met m) c
-
--- under the assignment 0 the negative literals are met
-pub start-count : (c : Clause) → signCount false c ≡ count (met 0) c
-unfolding signCount met
-start-count c = count-same (λ l. Bool·beq (l .positive) false) (met 0) c (λ l i. sym (rw (bit-zero (bitOf l)) (go (l .positive))))
+-- the word 0 stands for no literal
+pub none-is : (l : Literal) → 1 ≤ l .variable → is 0 l ≡ false
+unfolding literalWord
+none-is l h = go (l .positive)
   where
-    go : (p : Bool) → Bool·beq false p ≡ Bool·beq p false
-    go true = refl
-    go false = refl
+    go : (b : Bool) → eqb (2 * l .variable + cond b 0 1) 0 ≡ false
+    go true = ne-eqb (2 * l .variable + 0) 0 (λ e. omega arith)
+    go false = ne-eqb (2 * l .variable + 1) 0 (λ e. omega arith)
+
+pub none-count : {n : ℕ} (c : Clause) → WellFormedClause n c → count (is 0) c ≡ 0
+none-count c f = count-same (is 0) (λ l. false) c (λ l i. none-is l (f .known l i .0)) ∙ count-none c
 
 -- a clause has at most eight literals of a sign
 pub sign-small : {n : ℕ} (b : Bool) (c : Clause) → WellFormedClause n c → signCount b c < 16

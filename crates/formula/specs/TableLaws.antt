@@ -7,7 +7,7 @@ use Prim.Native.Nat.{ℕ, zero, suc, _+_, _*_, _≤_, _<_}
 use native.Mathlib.Nat.{zero-add, suc-add, add-zero, add-suc, le-trans}
 use native.Mathlib.Numerals.{add-one}
 use native.Mathlib.Omega.{arith}
-use lib.ListN.{length, getD, take, drop, length-map, length-drop, List·getD-map, drop-of-length-le}
+use lib.ListN.{length, getD, take, drop, length-map, length-drop, List·getD-map, List·getD-eq-default, drop-of-length-le}
 use lib.Seq.{take-take, take-nil, getD-take, length-take-le, drop-cons, getD-drop}
 use Rattle.words.specs.Lists.{In, span}
 use Rattle.words.specs.ListLaws.{in-span, length-span, getD-span}
@@ -100,6 +100,15 @@ module _ (k : ℕ) (cells : List ℕ) where
   pub held-end : (i : ℕ) → k ≤ i → drop i (held k cells) ≡ []
   held-end i h = drop-of-length-le (held k cells) {i = i} (rw (length-held k cells) h)
 
+  pub held-at : (i : ℕ) → i < k → getD (held k cells) i [] ≡ clauseAt cells i
+  held-at i h =
+      ap (λ (j : ℕ). getD (held k cells) j []) (sym (add-zero i))
+      ∙ sym (getD-drop i (held k cells) 0 [])
+      ∙ ap (λ (cs : List Clause). getD cs 0 []) (held-cons i h)
+
+  pub held-past : (i : ℕ) → k ≤ i → getD (held k cells) i [] ≡ []
+  held-past i h = List·getD-eq-default (held k cells) [] (rw (length-held k cells) h)
+
 -- ---- rows that can be read
 
 pub table-rows : {n k : ℕ} {cells : List ℕ} → Table n k cells → Rows k cells
@@ -119,7 +128,7 @@ in-drop (suc j) [] x i = i
 in-drop (suc j) (y ∷ xs) x i = List·Memᴰ·tail (in-drop j xs x i)
 
 module _ {cells : List ℕ} {i : ℕ} (row : Row cells i) where
-  row-length : length (clauseAt cells i) ≡ lengthAt cells i
+  pub row-length : length (clauseAt cells i) ≡ lengthAt cells i
   unfolding clauseAt
   row-length =
       length-map (take (lengthAt cells i) (drop (rowCells * i + 1) cells)) literalOf

@@ -1,5 +1,5 @@
--- What the machine's words hold: numbers of clauses crosswise, 64 clauses to a word, whatever is counted; and which clauses hold
--- a literal.
+-- What the machine's words hold: two numbers of each clause crosswise, 64 clauses to a word, whatever is counted; and which clauses
+-- hold a literal.
 use mathlib.Core.Path.{_≡_}
 use mathlib.Core.Bool.{Bool, not, _&&_, _||_}
 use mathlib.Core.List.{List}
@@ -35,9 +35,19 @@ rowCount = 2 * width + 2
 abbrev pub occurrenceCells : ℕ
 occurrenceCells = rowCount * rowWords
 
--- four rows hold a number below 16 for each clause
+-- Two counters keep a number below 16 each for every clause. A counter has a slot for each word of clauses, from its first slot on.
+abbrev pub firstCounter : ℕ
+firstCounter = 0
+
+abbrev pub secondCounter : ℕ
+secondCounter = rowWords
+
+abbrev pub slots : ℕ
+slots = 2 * rowWords
+
+-- a slot has a cell in each of four planes
 abbrev pub planeCells : ℕ
-planeCells = 4 * rowWords
+planeCells = 4 * slots
 
 -- how many words k clauses take
 abbrev pub wordsOf : ℕ → ℕ
@@ -53,19 +63,18 @@ number a b c d = digit a + 2 * digit b + 4 * digit c + 8 * digit d
 unfoldable pub countIn : Planes → ℕ → ℕ
 countIn p j = number (bit (p .p0) j) (bit (p .p1) j) (bit (p .p2) j) (bit (p .p3) j)
 
--- the planes of word w: each plane is a row
+-- the planes of a slot
 unfoldable pub planesAt : List ℕ → ℕ → Planes
-planesAt xs w =
-    record { p0 = getD xs w 0; p1 = getD xs (w + rowWords) 0; p2 = getD xs (w + 2 * rowWords) 0; p3 = getD xs (w + 3 * rowWords) 0 }
+planesAt xs s = record { p0 = getD xs s 0; p1 = getD xs (s + slots) 0; p2 = getD xs (s + 2 * slots) 0; p3 = getD xs (s + 3 * slots) 0 }
 
--- the number in lane i of an array of planes
-unfoldable pub countAt : List ℕ → ℕ → ℕ
-countAt xs i = countIn (planesAt xs (i / lanes)) (i % lanes)
+-- the number that the counter q has in lane i
+unfoldable pub countAt : List ℕ → ℕ → ℕ → ℕ
+countAt xs q i = countIn (planesAt xs (q + i / lanes)) (i % lanes)
 
--- The planes hold the number that `count` gives each of the k clauses, and 1 in the lanes past the last clause.
-pub record Counts (k : ℕ) (cells : List ℕ) (count : Clause → ℕ) (planes : List ℕ) : Type 0 where
-  pub each : (i : ℕ) → i < k → countAt planes i ≡ count (clauseAt cells i)
-  pub rest : (i : ℕ) → k ≤ i → i < lanes * wordsOf k → countAt planes i ≡ 1
+-- The counter q holds the number that `count` gives each of the k clauses, and 1 in the lanes past the last clause.
+pub record Counts (k : ℕ) (cells : List ℕ) (q : ℕ) (count : Clause → ℕ) (planes : List ℕ) : Type 0 where
+  pub each : (i : ℕ) → i < k → countAt planes q i ≡ count (clauseAt cells i)
+  pub rest : (i : ℕ) → k ≤ i → i < lanes * wordsOf k → countAt planes q i ≡ 1
 
 -- r is the number of the first clause whose count is 0, or k where there is none.
 pub record FirstZero (k : ℕ) (cells : List ℕ) (count : Clause → ℕ) (r : ℕ) : Type 0 where
@@ -104,15 +113,27 @@ pub record ZerosAfter (up down : ℕ) (p : Planes) (z : ℕ) : Type 0 where
   pub each : (j n : ℕ) → j < lanes → digit (bit up j) + digit (bit down j) ≤ 1 →
       n + digit (bit down j) ≡ countIn p j + digit (bit up j) → bit z j ≡ eqb n 0
 
--- The same for all lanes of k clauses, by the rows of two literals.
-pub record Shifted (k up down : ℕ) (occ from to : List ℕ) : Type 0 where
-  pub size : length to ≡ planeCells
-  pub each : (i n : ℕ) → i < lanes * wordsOf k → n < 16 →
-      n + digit (lane occ down i) ≡ countAt from i + digit (lane occ up i) → countAt to i ≡ n
+-- The cells after beside those before: the slot has the planes p, and every other slot what it had.
+pub record Stored (s : ℕ) (p : Planes) (before after : List ℕ) : Type 0 where
+  pub size : length after ≡ planeCells
+  pub here : planesAt after s ≡ p
+  pub other : (v : ℕ) → v < slots → (v ≡ s → ⊥) → planesAt after v ≡ planesAt before v
 
--- Whether no clause is left with 0, whatever is counted, where the rows move the numbers of the clauses from `count` to `next`.
+-- Word w of a counter, by the rows of two literals: the slot s moves from `from` to `after`, which was `before`.
+pub record ShiftedSlot (w s up down : ℕ) (occ from before after : List ℕ) : Type 0 where
+  pub word : Planes
+  pub moved : Moved (getD occ (up * rowWords + w) 0) (getD occ (down * rowWords + w) 0) (planesAt from s) word
+  pub stored : Stored s word before after
+
+-- All lanes of k clauses in the counter q, by the rows of two literals.
+pub record Shifted (k q up down : ℕ) (occ from to : List ℕ) : Type 0 where
+  pub each : (i n : ℕ) → i < lanes * wordsOf k → n < 16 →
+      n + digit (lane occ down i) ≡ countAt from q i + digit (lane occ up i) → countAt to q i ≡ n
+
+-- Whether no clause is left with 0 in the first counter, whatever is counted, where the rows move the numbers of the clauses from
+-- `count` to `next`.
 pub record AboveZero (k up down : ℕ) (occ from : List ℕ) (r : Bool) : Type 0 where
-  pub answer : (cells : List ℕ) (count next : Clause → ℕ) → Occurs k cells occ → Counts k cells count from →
+  pub answer : (cells : List ℕ) (count next : Clause → ℕ) → Occurs k cells occ → Counts k cells firstCounter count from →
       ((i : ℕ) → i < k → Steps up down count next (clauseAt cells i)) → r ≡ every (λ c. not (eqb (next c) 0)) (held k cells)
 
 -- ---- the start
@@ -131,7 +152,6 @@ pub record Summed (n k : ℕ) (occ : List ℕ) (b : Bool) (w : ℕ) (p : Planes)
   pub each : (j : ℕ) → j < lanes → digit (leb k (lanes * w + j)) + laneSum occ b (lanes * w + j) n < 16 →
       countIn p j ≡ digit (leb k (lanes * w + j)) + laneSum occ b (lanes * w + j) n
 
--- The planes at the start hold how many literals of each clause have the sign given.
-pub record Starts (n k : ℕ) (occ : List ℕ) (b : Bool) (planes : List ℕ) : Type 0 where
-  pub size : length planes ≡ planeCells
-  pub counts : (cells : List ℕ) → Table n k cells → Occurs k cells occ → Counts k cells (signCount b) planes
+-- The counter q holds how many literals of each clause have the sign given.
+pub record Starts (n k : ℕ) (occ : List ℕ) (q : ℕ) (b : Bool) (planes : List ℕ) : Type 0 where
+  pub counts : (cells : List ℕ) → Table n k cells → Occurs k cells occ → Counts k cells q (signCount b) planes

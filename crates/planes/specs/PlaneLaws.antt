@@ -1,4 +1,4 @@
--- The laws of planes: `moved` counts one up or down, a word of planes stored in its array, and the lowest lane with count 0.
+-- The laws of planes: `moved` counts one up or down, the planes of a slot stored in their array, and the lowest lane with count 0.
 use mathlib.Core.Path.{_≡_, refl, sym, _∙_}
 use mathlib.Core.Bool.{Bool, true, false, not, xor, _&&_, _||_, true≢false}
 use mathlib.Core.List.{List}
@@ -13,7 +13,7 @@ use borrow.Author.Count.{below-more}
 use Rattle.words.specs.Bits.{bit}
 use Rattle.words.specs.BitLaws.{bit-zero, digit, same-test}
 use Rattle.planes.specs.declared.Planes.{Planes}
-use Rattle.planes.specs.Machine.{lanes, rowWords, planeCells, number, countIn, planesAt, countAt}
+use Rattle.planes.specs.Machine.{lanes, rowWords, firstCounter, secondCounter, slots, planeCells, number, countIn, planesAt, countAt, Stored}
 use Rattle.planes.specs.LaneLaws.{trailing-below, trailing-at}
 
 -- ---- one more or one less
@@ -94,7 +94,7 @@ zero-moves false b c e false true n l h = same-test (number true b c e) 0 n 0 (�
 zero-moves true b c e false false n l h = same-test (number true b c e) 0 n 0 (λ q. omega arith) (λ q. omega arith)
 zero-moves false b c e false false n l h = same-test (number false b c e) 0 n 0 (λ q. omega arith) (λ q. omega arith)
 
--- ---- a word of planes in its array
+-- ---- the planes of a slot
 
 same-planes : {a b c d a′ b′ c′ d′ : ℕ} → a ≡ a′ → b ≡ b′ → c ≡ c′ → d ≡ d′ →
     _≡_ {A = Planes} (record { p0 = a; p1 = b; p2 = c; p3 = d }) (record { p0 = a′; p1 = b′; p2 = c′; p3 = d′ })
@@ -105,93 +105,99 @@ module _ (xs : List ℕ) (w : ℕ) (p : Planes) where
   stored0 = set xs w (p .p0)
 
   abbrev stored1 : List ℕ
-  stored1 = set stored0 (w + rowWords) (p .p1)
+  stored1 = set stored0 (w + slots) (p .p1)
 
   abbrev stored2 : List ℕ
-  stored2 = set stored1 (w + 2 * rowWords) (p .p2)
+  stored2 = set stored1 (w + 2 * slots) (p .p2)
 
   abbrev stored : List ℕ
-  stored = set stored2 (w + 3 * rowWords) (p .p3)
+  stored = set stored2 (w + 3 * slots) (p .p3)
 
-  pub stored-length : length stored ≡ length xs
+  stored-length : length stored ≡ length xs
   stored-length = simp length-set
 
   -- the places of other words
-  aside : (i : ℕ) → (i % rowWords ≡ w % rowWords → ⊥) → getD stored i 0 ≡ getD xs i 0
+  aside : (i : ℕ) → (i % slots ≡ w % slots → ⊥) → getD stored i 0 ≡ getD xs i 0
   aside i d =
-      getD-set-other stored2 (w + 3 * rowWords) i _ 0 (λ e. d (omega arith))
-      ∙ getD-set-other stored1 (w + 2 * rowWords) i _ 0 (λ e. d (omega arith))
-      ∙ getD-set-other stored0 (w + rowWords) i _ 0 (λ e. d (omega arith))
+      getD-set-other stored2 (w + 3 * slots) i _ 0 (λ e. d (omega arith))
+      ∙ getD-set-other stored1 (w + 2 * slots) i _ 0 (λ e. d (omega arith))
+      ∙ getD-set-other stored0 (w + slots) i _ 0 (λ e. d (omega arith))
       ∙ getD-set-other xs w i _ 0 (λ e. d (omega arith))
 
-  module _ (l : w < rowWords) where
-    pub stored-other : (v : ℕ) → v < rowWords → (v ≡ w → ⊥) → planesAt stored v ≡ planesAt xs v
+  module _ (l : w < slots) where
+    stored-other : (v : ℕ) → v < slots → (v ≡ w → ⊥) → planesAt stored v ≡ planesAt xs v
     unfolding planesAt
     stored-other v h d =
         same-planes
         (aside v (λ e. d (omega arith)))
-        (aside (v + rowWords) (λ e. d (omega arith)))
-        (aside (v + 2 * rowWords) (λ e. d (omega arith)))
-        (aside (v + 3 * rowWords) (λ e. d (omega arith)))
+        (aside (v + slots) (λ e. d (omega arith)))
+        (aside (v + 2 * slots) (λ e. d (omega arith)))
+        (aside (v + 3 * slots) (λ e. d (omega arith)))
 
-    pub stored-same : length xs ≡ planeCells → planesAt stored w ≡ p
+    stored-same : length xs ≡ planeCells → planesAt stored w ≡ p
     unfolding planesAt
     stored-same h =
-        let room1 : w + rowWords < length stored0 = simp length-set (omega arith) in
-        let room2 : w + 2 * rowWords < length stored1 = simp length-set (omega arith) in
-        let room3 : w + 3 * rowWords < length stored2 = simp length-set (omega arith) in
+        let room1 : w + slots < length stored0 = simp length-set (omega arith) in
+        let room2 : w + 2 * slots < length stored1 = simp length-set (omega arith) in
+        let room3 : w + 3 * slots < length stored2 = simp length-set (omega arith) in
         same-planes
         (past3 w (λ e. omega arith) ∙ past2 w (λ e. omega arith) ∙ past1 w (λ e. omega arith)
         ∙ getD-set-same xs w _ 0 (omega arith))
-        (past3 (w + rowWords) (λ e. omega arith) ∙ past2 (w + rowWords) (λ e. omega arith)
-        ∙ getD-set-same stored0 (w + rowWords) _ 0 room1)
-        (past3 (w + 2 * rowWords) (λ e. omega arith) ∙ getD-set-same stored1 (w + 2 * rowWords) _ 0 room2)
-        (getD-set-same stored2 (w + 3 * rowWords) _ 0 room3)
+        (past3 (w + slots) (λ e. omega arith) ∙ past2 (w + slots) (λ e. omega arith)
+        ∙ getD-set-same stored0 (w + slots) _ 0 room1)
+        (past3 (w + 2 * slots) (λ e. omega arith) ∙ getD-set-same stored1 (w + 2 * slots) _ 0 room2)
+        (getD-set-same stored2 (w + 3 * slots) _ 0 room3)
       where
-        past3 : (i : ℕ) → (i ≡ w + 3 * rowWords → ⊥) → getD stored i 0 ≡ getD stored2 i 0
-        past3 i d = getD-set-other stored2 (w + 3 * rowWords) i _ 0 d
+        past3 : (i : ℕ) → (i ≡ w + 3 * slots → ⊥) → getD stored i 0 ≡ getD stored2 i 0
+        past3 i d = getD-set-other stored2 (w + 3 * slots) i _ 0 d
 
-        past2 : (i : ℕ) → (i ≡ w + 2 * rowWords → ⊥) → getD stored2 i 0 ≡ getD stored1 i 0
-        past2 i d = getD-set-other stored1 (w + 2 * rowWords) i _ 0 d
+        past2 : (i : ℕ) → (i ≡ w + 2 * slots → ⊥) → getD stored2 i 0 ≡ getD stored1 i 0
+        past2 i d = getD-set-other stored1 (w + 2 * slots) i _ 0 d
 
-        past1 : (i : ℕ) → (i ≡ w + rowWords → ⊥) → getD stored1 i 0 ≡ getD stored0 i 0
-        past1 i d = getD-set-other stored0 (w + rowWords) i _ 0 d
+        past1 : (i : ℕ) → (i ≡ w + slots → ⊥) → getD stored1 i 0 ≡ getD stored0 i 0
+        past1 i d = getD-set-other stored0 (w + slots) i _ 0 d
 
--- What holds of the words below w, and of the word that was stored at w, holds of the words up to w.
-pub words-more : (P : ℕ → Planes → Type 0) (xs ys : List ℕ) (w : ℕ) (p : Planes) → w < rowWords →
-    ((v : ℕ) → v < w → P v (planesAt xs v)) → planesAt ys w ≡ p →
-    ((v : ℕ) → v < rowWords → (v ≡ w → ⊥) → planesAt ys v ≡ planesAt xs v) → P w p →
-    (v : ℕ) → v < w + 1 → P v (planesAt ys v)
-words-more P xs ys w p l below same other here =
-    below-more (λ v. P v (planesAt ys v)) w (λ v h. rw (other v (omega arith) (λ e. omega arith)) (below v h)) (rw same here)
+  pub stored-slot : w < slots → length xs ≡ planeCells → Stored w p xs stored
+  stored-slot l h = record { size = stored-length ∙ h; here = stored-same l h; other = stored-other l }
 
--- Of so many words the first w hold what P says of each: the invariant of a loop that stores word by word.
-pub record FirstWords (P : ℕ → Planes → Type 0) (all : ℕ) (xs : List ℕ) (w : ℕ) : Type 0 where
+-- Of so many words the first w hold what P says of them in the first counter, and Q in the second: the invariant of a loop that
+-- stores word by word.
+pub record FirstWords (P Q : ℕ → Planes → Type 0) (all : ℕ) (xs : List ℕ) (w : ℕ) : Type 0 where
   pub within : w ≤ all
   pub size : length xs ≡ planeCells
-  pub each : (v : ℕ) → v < w → P v (planesAt xs v)
+  pub first : (v : ℕ) → v < w → P v (planesAt xs (firstCounter + v))
+  pub second : (v : ℕ) → v < w → Q v (planesAt xs (secondCounter + v))
 
-pub words-none : {P : ℕ → Planes → Type 0} {all : ℕ} {xs : List ℕ} → length xs ≡ planeCells → FirstWords P all xs 0
-words-none size = record { within = omega arith; size = size; each = λ v l. absurd (omega arith) }
+pub words-none : {P Q : ℕ → Planes → Type 0} {all : ℕ} {xs : List ℕ} → length xs ≡ planeCells → FirstWords P Q all xs 0
+words-none size =
+    record { within = omega arith; size = size; first = λ v l. absurd (omega arith); second = λ v l. absurd (omega arith) }
 
--- with word w stored
-pub words-step : {P : ℕ → Planes → Type 0} {all w : ℕ} {xs ys : List ℕ} {p : Planes} →
-    FirstWords P all xs w → w < all → all ≤ rowWords →
-    length ys ≡ planeCells → planesAt ys w ≡ p →
-    ((v : ℕ) → v < rowWords → (v ≡ w → ⊥) → planesAt ys v ≡ planesAt xs v) →
-    P w p → FirstWords P all ys (w + 1)
-words-step {P} {all} {w} {xs} {ys} {p} f l r size same other here = record {
-  within = omega arith;
-  size = size;
-  each = words-more P xs ys w p (omega arith) (f .each) same other here;
-}
+-- with word w stored in both counters
+pub words-step : {P Q : ℕ → Planes → Type 0} {all w : ℕ} {xs ys zs : List ℕ} {p q : Planes} →
+    FirstWords P Q all xs w → w < all → all ≤ rowWords →
+    Stored (firstCounter + w) p xs ys → P w p → Stored (secondCounter + w) q ys zs → Q w q →
+    FirstWords P Q all zs (w + 1)
+words-step {P} {Q} {all} {w} {xs} {ys} {zs} {p} {q} f l r a here b here′ =
+    record {
+      within = omega arith;
+      size = b .size;
+      first = below-more (λ v. P v (planesAt zs (firstCounter + v))) w
+          (λ v h. rw (other (firstCounter + v) (omega arith) (λ e. omega arith) (λ e. omega arith)) (f .first v h))
+          (rw (b .other (firstCounter + w) (omega arith) (λ e. omega arith), a .here) here);
+      second = below-more (λ v. Q v (planesAt zs (secondCounter + v))) w
+          (λ v h. rw (other (secondCounter + v) (omega arith) (λ e. omega arith) (λ e. omega arith)) (f .second v h))
+          (rw (b .here) here′);
+    }
+  where
+    other : (s : ℕ) → s < slots → (s ≡ firstCounter + w → ⊥) → (s ≡ secondCounter + w → ⊥) → planesAt zs s ≡ planesAt xs s
+    other s h d d′ = b .other s h d′ ∙ a .other s h d
 
 -- ---- the lowest lane with count 0
 
--- No lane before word w has count 0, and z has the lanes of word w that have.
-module _ (xs : List ℕ) (w z : ℕ) (before : (i : ℕ) → i < lanes * w → countAt xs i ≡ 0 → ⊥)
-    (zeros : (j : ℕ) → j < lanes → bit z j ≡ eqb (countIn (planesAt xs w) j) 0) where
-  lane-zero : (j : ℕ) → j < lanes → bit z j ≡ eqb (countAt xs (lanes * w + j)) 0
+-- No lane of the counter q before word w has count 0, and z has the lanes of word w that have.
+module _ (xs : List ℕ) (q w z : ℕ) (before : (i : ℕ) → i < lanes * w → countAt xs q i ≡ 0 → ⊥)
+    (zeros : (j : ℕ) → j < lanes → bit z j ≡ eqb (countIn (planesAt xs (q + w)) j) 0) where
+  lane-zero : (j : ℕ) → j < lanes → bit z j ≡ eqb (countAt xs q (lanes * w + j)) 0
   unfolding countAt
   lane-zero j l =
       let high : (lanes * w + j) / lanes ≡ w = omega arith in
@@ -200,24 +206,24 @@ module _ (xs : List ℕ) (w z : ℕ) (before : (i : ℕ) → i < lanes * w → c
 
   -- no lane of z below t is set
   lanes-above : (t : ℕ) → t ≤ lanes → ((j : ℕ) → j < t → bit z j ≡ false) →
-      (i : ℕ) → i < lanes * w + t → countAt xs i ≡ 0 → ⊥
+      (i : ℕ) → i < lanes * w + t → countAt xs q i ≡ 0 → ⊥
   lanes-above t r clear i l = go (ltb i (lanes * w)) refl
     where
-      go : (b : Bool) → ltb i (lanes * w) ≡ b → countAt xs i ≡ 0 → ⊥
-      go true h q = before i (ltb-true i (lanes * w) h) q
-      go false h q =
+      go : (b : Bool) → ltb i (lanes * w) ≡ b → countAt xs q i ≡ 0 → ⊥
+      go true h e = before i (ltb-true i (lanes * w) h) e
+      go false h e =
           let past : lanes * w ≤ i = ltb-false i (lanes * w) h in
           let j = i - lanes * w in
           let back : lanes * w + j ≡ i = omega arith in
-          let on : bit z j ≡ true = lane-zero j (omega arith) ∙ rw back (eq-eqb (countAt xs i) 0 q) in
+          let on : bit z j ≡ true = lane-zero j (omega arith) ∙ rw back (eq-eqb (countAt xs q i) 0 e) in
           true≢false (sym on ∙ clear j (omega arith))
 
-  pub zeros-none : z ≡ 0 → (i : ℕ) → i < lanes * (w + 1) → countAt xs i ≡ 0 → ⊥
+  pub zeros-none : z ≡ 0 → (i : ℕ) → i < lanes * (w + 1) → countAt xs q i ≡ 0 → ⊥
   zeros-none e i l = lanes-above lanes (omega arith) (λ j h. rw e (bit-zero j)) i (omega arith)
 
   pub zeros-lowest : (z ≡ 0 → ⊥) → z < 2 ^ lanes →
-      (trailingZeros lanes z < lanes) × (countAt xs (lanes * w + trailingZeros lanes z) ≡ 0)
-      × ((i : ℕ) → i < lanes * w + trailingZeros lanes z → countAt xs i ≡ 0 → ⊥)
+      (trailingZeros lanes z < lanes) × (countAt xs q (lanes * w + trailingZeros lanes z) ≡ 0)
+      × ((i : ℕ) → i < lanes * w + trailingZeros lanes z → countAt xs q i ≡ 0 → ⊥)
   zeros-lowest some fits =
       let low = trailingZeros lanes z in
       let t = trailing-at lanes z some fits in

@@ -100,26 +100,26 @@ module _ {k : ℕ} {cells occ : List ℕ} (o : Occurs k cells occ) (room : k ≤
   sum-past h r zero l = refl
   sum-past h r (suc v) l = rw (sum-past h r v (omega arith), lane-past o (signWord b v) i (row-below b v l) h r)
 
--- Words that are summed up hold the counts.
-pub start-counts : (n k : ℕ) (occ : List ℕ) (b : Bool) (planes : List ℕ) → n ≤ width → k ≤ laneCount →
-    ((w : ℕ) → w < wordsOf k → Summed n k occ b w (planesAt planes w)) →
-    (cells : List ℕ) → Table n k cells → Occurs k cells occ → Counts k cells (signCount b) planes
+-- The words of a counter that are summed up hold the counts.
+pub start-counts : (n k : ℕ) (occ : List ℕ) (q : ℕ) (b : Bool) (planes : List ℕ) → n ≤ width → k ≤ laneCount →
+    ((w : ℕ) → w < wordsOf k → Summed n k occ b w (planesAt planes (q + w))) →
+    (cells : List ℕ) → Table n k cells → Occurs k cells occ → Counts k cells q (signCount b) planes
 unfolding countAt
-start-counts n k occ b planes small room summed cells t o = record { each = held-lane; rest = past-lane }
+start-counts n k occ q b planes small room summed cells t o = record { each = held-lane; rest = past-lane }
   where
     at : (i : ℕ) → i < lanes * wordsOf k → digit (leb k i) + laneSum occ b i n < 16 →
-        countAt planes i ≡ digit (leb k i) + laneSum occ b i n
+        countAt planes q i ≡ digit (leb k i) + laneSum occ b i n
     at i h =
         let back : lanes * (i / lanes) + i % lanes ≡ i = omega arith in
         rw back at (summed (i / lanes) (omega arith) .each (i % lanes) (omega arith))
 
-    held-lane : (i : ℕ) → i < k → countAt planes i ≡ signCount b (clauseAt cells i)
+    held-lane : (i : ℕ) → i < k → countAt planes q i ≡ signCount b (clauseAt cells i)
     held-lane i h =
         let sum : digit (leb k i) + laneSum occ b i n ≡ signCount b (clauseAt cells i) =
         rw (lt-leb k i h, sum-held o room b i (t .each i h) h small) (zero-add _) in
         at i (omega arith) (rw sum (sign-small b (clauseAt cells i) (t .each i h))) ∙ sum
 
-    past-lane : (i : ℕ) → k ≤ i → i < lanes * wordsOf k → countAt planes i ≡ 1
+    past-lane : (i : ℕ) → k ≤ i → i < lanes * wordsOf k → countAt planes q i ≡ 1
     past-lane i h l =
         let sum : digit (leb k i) + laneSum occ b i n ≡ 1 = rw (le-leb k i h, sum-past o room b i h (omega arith) n small) in
         at i l (rw sum (omega arith)) ∙ sum

@@ -1,5 +1,6 @@
-// A number for each clause in bit planes, moved at each flip; what is counted is the caller's.
+// Two numbers for each clause in bit planes, moved at each flip; what is counted is the caller's.
 ghost use mathlib.Core.Path.{_≡_};
+ghost use mathlib.Core.Bool.{true, false};
 ghost use mathlib.Core.List.{List};
 ghost use Prim.Native.Nat.{ℕ, _+_, _*_, _≤_, _<_};
 ghost use lib.Dec.{eqb, leb};
@@ -7,17 +8,34 @@ ghost use lib.ListN.{length};
 ghost use Rattle.words.specs.Bits.{bit, width};
 ghost use Rattle.formula.specs.Formula.{lengthLimit, Clause};
 ghost use Rattle.formula.specs.Machine.{cellCount, lengthAt, literalAt, clauseAt};
-ghost use Rattle.planes.specs.Machine.{lanes, rowWords, laneCount, rowCount, occurrenceCells, planeCells, countIn, planesAt, Counts, FirstZero, Readable, Occurs, Marked, Moved, ZerosAfter, Shifted, AboveZero, Summed, Starts};
+ghost use Rattle.planes.specs.Machine.{lanes, rowWords, laneCount, rowCount, occurrenceCells, firstCounter, secondCounter, slots, planeCells, countIn, planesAt, Counts, FirstZero, Readable, Occurs, Marked, Moved, ZerosAfter, Stored, ShiftedSlot, Shifted, AboveZero, Summed, Starts};
 
-// The sizes of specs/Machine.antt: lanes of a word, words of a row, cells of the occurrence table
-// and of an array of planes.
+// The sizes of specs/Machine.antt: lanes of a word, words of a row, cells of the occurrence table,
+// slots of two counters, and cells of an array of planes.
 const LANES: usize = 64;
 
 const ROW: usize = 16;
 
 pub const OCCURRENCES: usize = (2 * words::WIDTH as usize + 2) * ROW;
 
-pub const PLANES: usize = 4 * ROW;
+const SLOTS: usize = 2 * ROW;
+
+pub const PLANES: usize = 4 * SLOTS;
+
+// A word that stands for no literal: its row is empty.
+pub const NO_LITERAL: u32 = 0;
+
+// The slot of each counter's first word.
+const FIRST: usize = 0;
+
+const SECOND: usize = ROW;
+
+// The words of two literals: a number goes up in the clauses that hold one, and down in those that
+// hold the other.
+pub struct Rows {
+    pub up: u32,
+    pub down: u32,
+}
 
 // The counts of 64 clauses: plane p has binary digit p of each, one lane a clause.
 pub struct Planes {
@@ -65,31 +83,28 @@ impl Planes {
     }
 }
 
-// The planes of word w.
-fn word_at(planes: &[u64; PLANES], w: usize) -> Planes
-    requires { ⌜ w < rowWords ⌝ }
-    ensures { λ r. ⌜ r ≡ planesAt (now (planes .entry)) w ⌝ }
+// The planes of a slot.
+fn slot_at(planes: &[u64; PLANES], slot: usize) -> Planes
+    requires { ⌜ slot < slots ⌝ }
+    ensures { λ r. ⌜ r ≡ planesAt (now (planes .entry)) slot ⌝ }
 {
     Planes {
-        p0: planes[w],
-        p1: planes[w + ROW],
-        p2: planes[w + 2 * ROW],
-        p3: planes[w + 3 * ROW],
+        p0: planes[slot],
+        p1: planes[slot + SLOTS],
+        p2: planes[slot + 2 * SLOTS],
+        p3: planes[slot + 3 * SLOTS],
     }
 }
 
-fn put_word(planes: &mut [u64; PLANES], w: usize, word: Planes)
-    requires { ⌜ w < rowWords ⌝ }
+fn put_slot(planes: &mut [u64; PLANES], slot: usize, word: Planes)
+    requires { ⌜ slot < slots ⌝ }
     requires { ⌜ length (now planes) ≡ planeCells ⌝ }
-    ensures { λ r. ⌜ length (now (planes .exit)) ≡ planeCells ⌝ }
-    ensures { λ r. ⌜ planesAt (now (planes .exit)) w ≡ word ⌝ }
-    ensures { λ r. ⌜ ((v : ℕ) → v < rowWords → (v ≡ w → ⊥) →
-        planesAt (now (planes .exit)) v ≡ planesAt (now (planes .entry)) v) ⌝ }
+    ensures { λ r. ⌜ Stored slot word (now (planes .entry)) (now (planes .exit)) ⌝ }
 {
-    planes[w] = word.p0;
-    planes[w + ROW] = word.p1;
-    planes[w + 2 * ROW] = word.p2;
-    planes[w + 3 * ROW] = word.p3;
+    planes[slot] = word.p0;
+    planes[slot + SLOTS] = word.p1;
+    planes[slot + 2 * SLOTS] = word.p2;
+    planes[slot + 3 * SLOTS] = word.p3;
 }
 
 // The lanes of clause i in the rows of its literals.
@@ -139,7 +154,7 @@ fn past(k: usize, w: usize) -> u64
     }
 }
 
-// Word w of the planes that count the literals of one sign: the lanes of each of them, added up.
+// Word w of a counter of the literals of one sign: the lanes of each of them, added up.
 fn start_word(occ: &[u64; OCCURRENCES], n: u32, k: usize, positive: bool, w: usize) -> Planes
     requires { ⌜ n ≤ width ⌝ }
     requires { ⌜ (lanes * w < k) × (k ≤ laneCount) ⌝ }
@@ -160,58 +175,86 @@ fn start_word(occ: &[u64; OCCURRENCES], n: u32, k: usize, positive: bool, w: usi
     word
 }
 
-// How many literals of each clause have the sign given, for k clauses over n variables.
-pub fn start(occ: &[u64; OCCURRENCES], n: u32, k: usize, positive: bool) -> [u64; PLANES]
+// How many literals of each clause are negative, and how many positive, for k clauses over n
+// variables.
+pub fn start(occ: &[u64; OCCURRENCES], n: u32, k: usize) -> [u64; PLANES]
     requires { ⌜ n ≤ width ⌝ }
     requires { ⌜ k ≤ laneCount ⌝ }
-    ensures { λ r. ⌜ Starts n k (now (occ .entry)) positive r ⌝ }
+    ensures { λ r. ⌜ length r ≡ planeCells ⌝ }
+    ensures { λ r. ⌜ Starts n k (now (occ .entry)) firstCounter false r ⌝ }
+    ensures { λ r. ⌜ Starts n k (now (occ .entry)) secondCounter true r ⌝ }
 {
     let words = (k + (LANES - 1)) / LANES;
     let mut planes = [0u64; PLANES];
     let mut w: usize = 0;
     while w < words {
-        let word = start_word(occ, n, k, positive, w);
-        put_word(&mut planes, w, word);
+        let negative = start_word(occ, n, k, false, w);
+        put_slot(&mut planes, FIRST + w, negative);
+        let positive = start_word(occ, n, k, true, w);
+        put_slot(&mut planes, SECOND + w, positive);
         w += 1;
     }
     planes
 }
 
-// One more for the clauses that hold the literal `up`, and one less for those that hold `down`.
+// One word of a counter, in its slot: one more in the row of `up`, one less in that of `down`.
+fn shift_slot(
+    occ: &[u64; OCCURRENCES],
+    w: usize,
+    slot: usize,
+    rows: Rows,
+    from: &[u64; PLANES],
+    to: &mut [u64; PLANES],
+)
+    requires { ⌜ (w < rowWords) × (slot < slots) ⌝ }
+    requires { ⌜ (rows .up < rowCount) × (rows .down < rowCount) ⌝ }
+    requires { ⌜ length (now to) ≡ planeCells ⌝ }
+    ensures { λ r. ⌜ ShiftedSlot w slot (rows .up) (rows .down) (now (occ .entry)) (now (from .entry))
+        (now (to .entry)) (now (to .exit)) ⌝ }
+{
+    let up = occ[rows.up as usize * ROW + w];
+    let down = occ[rows.down as usize * ROW + w];
+    let next = slot_at(from, slot).moved(up, down);
+    put_slot(to, slot, next);
+}
+
+// Each counter by its rows: one more for the clauses that hold the literal `up`, and one less for
+// those that hold `down`.
 pub fn shift(
     occ: &[u64; OCCURRENCES],
     k: usize,
-    up: u32,
-    down: u32,
+    first: Rows,
+    second: Rows,
     from: &[u64; PLANES],
     to: &mut [u64; PLANES],
 )
     requires { ⌜ k ≤ laneCount ⌝ }
-    requires { ⌜ (up < rowCount) × (down < rowCount) ⌝ }
+    requires { ⌜ (first .up < rowCount) × (first .down < rowCount) ⌝ }
+    requires { ⌜ (second .up < rowCount) × (second .down < rowCount) ⌝ }
     requires { ⌜ length (now to) ≡ planeCells ⌝ }
-    ensures { λ r. ⌜ Shifted k up down (now (occ .entry)) (now (from .entry)) (now (to .exit)) ⌝ }
+    ensures { λ r. ⌜ length (now (to .exit)) ≡ planeCells ⌝ }
+    ensures { λ r. ⌜ Shifted k firstCounter (first .up) (first .down) (now (occ .entry)) (now (from .entry)) (now (to .exit)) ⌝ }
+    ensures { λ r. ⌜ Shifted k secondCounter (second .up) (second .down) (now (occ .entry)) (now (from .entry)) (now (to .exit)) ⌝ }
 {
     let words = (k + (LANES - 1)) / LANES;
-    let more = up as usize * ROW;
-    let less = down as usize * ROW;
     let mut w: usize = 0;
     while w < words {
-        let next = word_at(from, w).moved(occ[more + w], occ[less + w]);
-        put_word(to, w, next);
+        shift_slot(occ, w, FIRST + w, first, from, to);
+        shift_slot(occ, w, SECOND + w, second, from, to);
         w += 1;
     }
 }
 
-// The number of the first clause with count 0, or k where there is none.
+// The number of the first clause whose first number is 0, or k where there is none.
 pub fn first_zero(planes: &[u64; PLANES], k: usize) -> usize
     requires { ⌜ k ≤ laneCount ⌝ }
-    ensures { λ r. ⌜ ((cells : List ℕ) (count : Clause → ℕ) → Counts k cells count (now (planes .entry)) →
+    ensures { λ r. ⌜ ((cells : List ℕ) (count : Clause → ℕ) → Counts k cells firstCounter count (now (planes .entry)) →
         FirstZero k cells count r) ⌝ }
 {
     let words = (k + (LANES - 1)) / LANES;
     let mut w: usize = 0;
     while w < words {
-        let zeros = word_at(planes, w).zeros();
+        let zeros = slot_at(planes, FIRST + w).zeros();
         if zeros != 0 {
             return LANES * w + u64::trailing_zeros(zeros) as usize;
         }
@@ -220,8 +263,8 @@ pub fn first_zero(planes: &[u64; PLANES], k: usize) -> usize
     k
 }
 
-// Whether every count would be above 0 after `shift`: the last level of a search asks this alone,
-// and stores no planes.
+// Whether every first number would be above 0 after `shift` by these rows: the last level of a
+// search asks this alone, and stores no planes.
 pub fn above_zero_after(
     occ: &[u64; OCCURRENCES],
     k: usize,
@@ -238,7 +281,7 @@ pub fn above_zero_after(
     let less = down as usize * ROW;
     let mut w: usize = 0;
     while w < words {
-        let zeros = word_at(planes, w).zeros_after(occ[more + w], occ[less + w]);
+        let zeros = slot_at(planes, FIRST + w).zeros_after(occ[more + w], occ[less + w]);
         if zeros != 0 {
             return false;
         }

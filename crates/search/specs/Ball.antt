@@ -2,9 +2,10 @@
 use mathlib.Core.Bool.{Bool, false, not, _&&_}
 use mathlib.Core.List.{List, []}
 use Prim.Native.Nat.{ℕ}
-use Rattle.words.specs.Lists.{every, keep, first}
+use lib.Dec.{ltb}
+use Rattle.words.specs.Lists.{every, keep, count, first}
 use Rattle.words.specs.Bits.{bit, toggle}
-use Rattle.formula.specs.Formula.{Literal, Clause, bitOf, someMet}
+use Rattle.formula.specs.Formula.{Literal, Clause, bitOf, met}
 use Rattle.tree.specs.Explore.{Outcome, Tree, explore}
 
 -- Where a call stands: the assignment, and the set of variables flipped on this path.
@@ -12,13 +13,32 @@ pub record State : Type 0 where
   pub assignment : ℕ
   pub flipped : ℕ
 
--- What a clause reads as in a call: true or false under its assignment.
-unfoldable pub reading : State → Clause → Bool
-reading s c = someMet (s .assignment) c
-
 -- the variable of the literal is flipped on this path
 unfoldable pub isFlipped : State → Literal → Bool
 isFlipped s l = bit (s .flipped) (bitOf l)
+
+-- ---- the reading of a clause
+
+-- a literal is open: it is not met, and its variable is not flipped yet
+unfoldable pub isOpen : State → Literal → Bool
+isOpen s l = not (met (s .assignment) l) && not (isFlipped s l)
+
+-- What a clause reads as in a call (the paper's standing of a term): how many of its literals are met, and how many are open.
+pub record Reading : Type 0 where
+  pub met : ℕ
+  pub «open» : ℕ
+
+unfoldable pub reading : State → Clause → Reading
+reading s c = record { met = count (met (s .assignment)) c; «open» = count (isOpen s) c }
+
+-- Yes or no is taken from the reading: a clause is true if some literal is met.
+unfoldable pub true? : Reading → Bool
+true? r = ltb 0 (r .met)
+
+unfoldable pub isTrue : State → Clause → Bool
+isTrue s c = true? (reading s c)
+
+-- ---- a flip
 
 -- the literal's variable flipped
 unfoldable pub flip : State → Literal → State
@@ -44,7 +64,7 @@ branch select skip s = tried skip s (select s)
 
 -- the engine selects the first clause that is false
 unfoldable pub select : List Clause → State → Clause
-select cs s = first (λ c. not (reading s c)) cs []
+select cs s = first (λ c. not (isTrue s c)) cs []
 
 -- and skips no literal but those of flipped variables
 unfoldable pub skip : List Clause → State → Literal → Bool
@@ -62,7 +82,7 @@ rule cs = branch (select cs) (skip cs)
 -- 3. else the first false clause, and no if each of its variables is flipped: `select`, and `rule` gives no literal;
 -- 4. else each of its literals in order whose variable is not flipped: flip it and call with one flip less: `moves`, `move`, `try`.
 unfoldable pub ballTree : List Clause → Rule → Tree State Literal
-ballTree cs rule = record { goal = λ s. every (reading s) cs; out = λ s. s .assignment; moves = rule; move = flip }
+ballTree cs rule = record { goal = λ s. every (isTrue s) cs; out = λ s. s .assignment; moves = rule; move = flip }
 
 -- The call at a state with r flips left.
 unfoldable pub ballSearch : List Clause → Rule → ℕ → State → Outcome

@@ -23,8 +23,7 @@ use Rattle.planes.specs.Machine.{planeCells, signWord}
 use Rattle.search.specs.declared.ball.Path.{Path}
 use Rattle.search.specs.Run.{Block, Search, ball, centreAt, centreCount, summedRadius}
 use Rattle.search.specs.CallLaws.{ball-some}
-use Rattle.search.specs.CountLaws.{toggle-shows}
-use Rattle.search.specs.Machine.{stateIn, centred, callFrom, IsLiteral, Shows, Flips, Moves, Matched, searchIn, ballsFrom, Before}
+use Rattle.search.specs.Machine.{stateIn, centred, callFrom, IsLiteral, Shows, Toggles, Moves, Matched, searchIn, ballsFrom, Before}
 
 -- ---- the literal of a bit
 
@@ -63,13 +62,13 @@ module _ (k : ℕ) (occ planes : List ℕ) (m : ℕ) where
   pub stays : length planes ≡ planeCells → Moves k occ m planes m planes
   stays e = record { size = e; shows = λ cells r h. h }
 
-  pub toggles : (b : Bool) (v : ℕ) → not (bit m v) ≡ b → (next : List ℕ) → Flips k (signWord b v) occ planes next →
+  pub toggles : (b : Bool) (v : ℕ) → not (bit m v) ≡ b → (next : List ℕ) → Toggles k (signWord b v) occ planes next →
       Moves k occ m planes (toggle m v) next
   toggles b v e next f =
       record {
         size = f .size;
         shows = λ cells r h.
-            let moved = toggle-shows f r (sign-unmet b v m e) h in
+            let moved = f .shows cells m r (sign-unmet b v m e) h in
             subst (λ (u : ℕ). Shows k cells (centred (toggle m u)) next) (sign-bit b v) moved;
       }
 

@@ -10,7 +10,7 @@ use Rattle.tree.specs.Explore.{Outcome, found, none, calls, plus, after, try}
 use Rattle.tree.specs.Budget.{Answer, clear, spent, answer}
 use Rattle.tree.specs.TreeLaws.{explore-some}
 use Rattle.tree.specs.BudgetLaws.{settle, rest, settle-start, call-spent, call-clear, call-none, call-moves}
-use Rattle.search.specs.Ball.{State, reading, flip, Rule, ballTree, ballSearch}
+use Rattle.search.specs.Ball.{State, isTrue, flip, Rule, ballTree, ballSearch}
 use Rattle.search.specs.Run.{Search, centreCount, ball, run}
 
 -- ---- a call
@@ -22,17 +22,17 @@ module _ (A c : ℕ) (cs : List Clause) (rule : Rule) (r : ℕ) (s : State) wher
   search-spent = call-spent A c (ballTree cs rule) s r
 
   -- with all clauses true it is clear;
-  pub search-clear : c < A → every (reading s) cs ≡ true → settle A c (ballSearch cs rule r s) ≡ clear (s .assignment) (c + 1)
+  pub search-clear : c < A → every (isTrue s) cs ≡ true → settle A c (ballSearch cs rule r s) ≡ clear (s .assignment) (c + 1)
   unfolding ballSearch ballTree
   search-clear = call-clear A c (ballTree cs rule) s r
 
   -- with no flip left it is none;
-  pub search-none : c < A → every (reading s) cs ≡ false → r ≡ 0 → settle A c (ballSearch cs rule r s) ≡ Answer.none (c + 1)
+  pub search-none : c < A → every (isTrue s) cs ≡ false → r ≡ 0 → settle A c (ballSearch cs rule r s) ≡ Answer.none (c + 1)
   unfolding ballSearch ballTree
   search-none l g z = call-none A c (ballTree cs rule) s r z l g
 
   -- and otherwise it is what the rule's literals give, from one call more on.
-  pub search-literals : every (reading s) cs ≡ false → 0 < r →
+  pub search-literals : every (isTrue s) cs ≡ false → 0 < r →
       settle A c (ballSearch cs rule r s) ≡ settle A (c + 1) (try (λ l. ballSearch cs rule (r - 1) (flip s l)) (rule s))
   unfolding ballSearch ballTree
   search-literals g l = call-moves A c (ballTree cs rule) s r l g

@@ -1,59 +1,90 @@
 -- What the planes tell of a state: the clause that the rule takes, and what a flip leaves.
-use mathlib.Core.Path.{_≡_, sym, ap, _∙_}
-use mathlib.Core.Bool.{Bool, true, false, not}
+use mathlib.Core.Path.{_≡_, refl, sym, ap, _∙_}
+use mathlib.Core.Bool.{Bool, true, false, not, Bool·beq, and-true, and-false}
 use mathlib.Core.List.{List, []}
-use Prim.Native.Nat.{ℕ, _<_}
+use Prim.Native.Nat.{ℕ, _+_, _/_, _≤_, _<_}
 use native.Mathlib.Omega.{arith}
-use lib.Dec.{eqb}
+use lib.ListN.{length}
 use borrow.Author.Tests.{eq-eqb, ne-eqb}
 use Rattle.words.specs.Lists.{every, count}
 use Rattle.words.specs.Bits.{toggle, width}
-use Rattle.formula.specs.Formula.{Clause, bitOf, met, literalOf}
-use Rattle.formula.specs.Counts.{opposite, Steps}
-use Rattle.formula.specs.CountLaws.{opposite-lt, toggle-steps, true-count, start-count}
+use Rattle.words.specs.BitLaws.{digit, bit-zero, bit-toggle-same}
+use Rattle.words.specs.CountLaws.{count-same, digit-not}
+use Rattle.formula.specs.Formula.{Literal, Clause, WellFormedClause, bitOf, met, literalOf}
+use Rattle.formula.specs.Counts.{signCount, opposite, Steps}
+use Rattle.formula.specs.CountLaws.{names?, is, opposite-lt, both-count, same-bit, same-is, other-is, other-bit, other-met, literal-toggles, count-steps, none-is, none-count}
 use Rattle.formula.specs.Machine.{held, clauseAt}
 use Rattle.formula.specs.HeldLaws.{held-every, held-fails, held-first}
-use Rattle.planes.specs.Machine.{rowCount, Counts, FirstZero, Starts, Shifted, AboveZero}
+use Rattle.planes.specs.Machine.{rowCount, firstCounter, secondCounter, planeCells, Counts, FirstZero, Starts, Shifted, AboveZero}
 use Rattle.planes.specs.CountsLaws.{shifted-counts}
-use Rattle.search.specs.Ball.{State, reading, flip, tried, skip}
-use Rattle.search.specs.RuleLaws.{reading-true, rule-tried, select-first}
-use Rattle.search.specs.Machine.{centred, Ready, IsLiteral, Shows, Tryable, Begins, Chosen, Flips, Settles}
+use Rattle.search.specs.Ball.{State, isFlipped, isOpen, reading, isTrue, flip, tried, skip}
+use Rattle.search.specs.ReadingLaws.{open-is, true-met}
+use Rattle.search.specs.RuleLaws.{rule-tried, select-first}
+use Rattle.search.specs.Machine.{centred, Ready, IsLiteral, Tryable, Begins, Chosen, Flips, Toggles, Settles}
 
--- a clause reads as true where its count is not 0
-reads : (s : State) (c : Clause) → reading s c ≡ not (eqb (count (met (s .assignment)) c) 0)
-reads s c = reading-true s c ∙ true-count (s .assignment) c
+-- ---- what is counted
+
+-- it may be said in another way
+counts-same : {k : ℕ} {cells : List ℕ} {q : ℕ} {planes : List ℕ} {f g : Clause → ℕ} → ((c : Clause) → f c ≡ g c) →
+    Counts k cells q f planes → Counts k cells q g planes
+counts-same e h = record { each = λ i l. h .each i l ∙ e _; rest = h .rest }
+
+-- at a centre the open literals are those that are not met
+open-centred : (m : ℕ) (l : Literal) → isOpen (centred m) l ≡ not (met m l)
+unfolding isOpen isFlipped
+open-centred m l = rw (bit-zero (bitOf l)) (and-true (not (met m l)))
 
 -- ---- the start
 
--- what is counted may be said in another way
-counts-same : {k : ℕ} {cells planes : List ℕ} {p q : Clause → ℕ} → ((c : Clause) → p c ≡ q c) →
-    Counts k cells p planes → Counts k cells q planes
-counts-same e h = record { each = λ i l. h .each i l ∙ e _; rest = h .rest }
+-- under the assignment 0 the negative literals are met, and the positive ones open
+start-met : (c : Clause) → signCount false c ≡ reading (centred 0) c .met
+unfolding signCount reading met
+start-met c = count-same _ _ c (λ l i. sym (rw (bit-zero (bitOf l)) (go (l .positive))))
+  where
+    go : (p : Bool) → Bool·beq false p ≡ Bool·beq p false
+    go true = refl
+    go false = refl
 
-pub begins : (n k : ℕ) (occ planes : List ℕ) → Starts n k occ false planes → Begins n k occ planes
-begins n k occ planes h =
-    record { size = h .size; shows = λ cells t o. record { met = counts-same start-count (h .counts cells t o) } }
+start-open : (c : Clause) → signCount true c ≡ reading (centred 0) c .«open»
+unfolding signCount reading met
+start-open c = count-same _ _ c (λ l i. sym (open-centred 0 l ∙ rw (bit-zero (bitOf l)) (go (l .positive))))
+  where
+    go : (p : Bool) → not (Bool·beq false p) ≡ Bool·beq p true
+    go true = refl
+    go false = refl
+
+pub begins : (n k : ℕ) (occ planes : List ℕ) → length planes ≡ planeCells → Starts n k occ firstCounter false planes →
+    Starts n k occ secondCounter true planes → Begins n k occ planes
+begins n k occ planes size negative positive =
+    record {
+      size = size;
+      shows = λ cells t o.
+          record {
+            met = counts-same start-met (negative .counts cells t o);
+            «open» = counts-same start-open (positive .counts cells t o);
+          };
+    }
 
 -- ---- the clause that the rule takes
 
-pub chosen : (k : ℕ) (cells : List ℕ) (s : State) (r : ℕ) → FirstZero k cells (count (met (s .assignment))) r →
+pub chosen : (k : ℕ) (cells : List ℕ) (s : State) (r : ℕ) → FirstZero k cells (λ c. reading s c .met) r →
     Chosen k cells s r
 chosen k cells s r f =
     record {
       within = f .within;
-      all = λ e. held-every k cells (reading s) (λ i l. before i (omega arith));
-      some = λ l. held-fails k cells (reading s) r l (here l);
+      all = λ e. held-every k cells (isTrue s) (λ i l. before i (omega arith));
+      some = λ l. held-fails k cells (isTrue s) r l (here l);
       literals = λ l.
-          let first = held-first k cells (λ c. not (reading s c)) r [] l (ap not (here l)) (λ i h. ap not (before i h)) in
+          let first = held-first k cells (λ c. not (isTrue s c)) r [] l (ap not (here l)) (λ i h. ap not (before i h)) in
           rule-tried (held k cells) s ∙ ap (tried (skip (held k cells)) s) (select-first (held k cells) s ∙ first);
-      failing = λ l. sym (reading-true s (clauseAt cells r)) ∙ here l;
+      failing = here;
     }
   where
-    before : (i : ℕ) → i < r → reading s (clauseAt cells i) ≡ true
-    before i h = reads s (clauseAt cells i) ∙ ap not (ne-eqb _ 0 (f .before i h))
+    before : (i : ℕ) → i < r → isTrue s (clauseAt cells i) ≡ true
+    before i h = true-met s (clauseAt cells i) ∙ ap not (ne-eqb _ 0 (f .before i h))
 
-    here : r < k → reading s (clauseAt cells r) ≡ false
-    here l = reads s (clauseAt cells r) ∙ ap not (eq-eqb _ 0 (f .here l))
+    here : r < k → isTrue s (clauseAt cells r) ≡ false
+    here l = true-met s (clauseAt cells r) ∙ ap not (eq-eqb _ 0 (f .here l))
 
 -- ---- a flip
 
@@ -61,42 +92,106 @@ chosen k cells s r f =
 pub flip-rows : (literal : ℕ) → IsLiteral literal → (literal < rowCount) × (opposite literal < rowCount)
 flip-rows literal h = (h .1, opposite-lt width literal (h .1))
 
-module _ (k literal : ℕ) (occ : List ℕ) (known : IsLiteral literal) where
-  abbrev after : ℕ → ℕ
-  after m = toggle m (bitOf (literalOf literal))
+module _ (literal : ℕ) (known : IsLiteral literal) where
+  abbrev it : Literal
+  it = literalOf literal
 
-  steps : (cells : List ℕ) (m : ℕ) → Ready k cells occ → met m (literalOf literal) ≡ false →
-      (i : ℕ) → i < k → Steps literal (opposite literal) (count (met m)) (count (met (after m))) (clauseAt cells i)
-  steps cells m r u i h = toggle-steps literal (clauseAt cells i) (r .table .each i h) m (known .0) u
+  -- One literal: open after the flip, or the literal flipped, as often as open before: its opposite was met, and is flipped now.
+  open-flips : (s : State) (l : Literal) → 1 ≤ l .variable → Tryable s it →
+      digit (isOpen (flip s it) l) + digit (is literal l) ≡ digit (isOpen s l) + digit (is 0 l)
+  open-flips s l h t = rw (none-is l h) (go (names? (literal / 2) l) refl)
+    where
+      go : (b : Bool) → names? (literal / 2) l ≡ b →
+          digit (isOpen (flip s it) l) + digit (is literal l) ≡ digit (isOpen s l) + digit false
+      go true e =
+          let now : isFlipped (flip s it) l ≡ true = unfold isFlipped flip in
+          rw (same-bit literal l e, bit-toggle-same (s .flipped) (bitOf it)) (ap not (t .fresh)) in
+          let then : isFlipped s l ≡ false = unfold isFlipped in rw (same-bit literal l e) (t .fresh) in
+          omega (
+            arith,
+            ap digit (open-is (flip s it) l _ true refl now ∙ and-false (not (met (flip s it .assignment) l))),
+            ap digit (open-is s l _ false refl then ∙ and-true (not (met (s .assignment) l))),
+            ap digit (same-is literal l e (s .assignment) (t .unmet)),
+          )
+      go false e =
+          let still : isOpen (flip s it) l ≡ isOpen s l = unfold flip isFlipped in
+          open-is (flip s it) l _ _ (other-met literal l e (known .0) h (s .assignment)) (other-bit literal l e (known .0) h (s .flipped))
+          ∙ sym (open-is s l _ _ refl refl) in
+          rw (still, other-is literal l e)
 
-  pub flips : (from to : List ℕ) → Shifted k literal (opposite literal) occ from to → Flips k literal occ from to
-  flips from to h =
+  -- At a centre what is open is what is not met.
+  open-toggles : (m : ℕ) (l : Literal) → 1 ≤ l .variable → met m it ≡ false →
+      digit (isOpen (centred (toggle m (bitOf it))) l) + digit (is literal l)
+      ≡ digit (isOpen (centred m) l) + digit (is (opposite literal) l)
+  open-toggles m l h u =
+      let m′ = toggle m (bitOf it) in
+      rw (open-centred m l, open-centred m′ l)
+      (omega (arith, literal-toggles literal m l (known .0) h u, digit-not (met m l), digit-not (met m′ l)))
+
+  module _ (k : ℕ) (cells occ : List ℕ) (r : Ready k cells occ) (i : ℕ) (h : i < k) where
+    abbrev c : Clause
+    c = clauseAt cells i
+
+    abbrev well : WellFormedClause width c
+    well = r .table .each i h
+
+    met-steps : (m : ℕ) → met m it ≡ false →
+        Steps literal (opposite literal) (count (met m)) (count (met (toggle m (bitOf it)))) c
+    met-steps m u =
+        count-steps literal (opposite literal) c well (both-count literal c (well .once)) _ _
+        (λ l j. literal-toggles literal m l (known .0) (well .known l j .0) u)
+
+    open-steps : (s : State) → Tryable s it → Steps 0 literal (count (isOpen s)) (count (isOpen (flip s it))) c
+    open-steps s t =
+        count-steps 0 literal c well (omega (arith, none-count c well, both-count literal c (well .once))) _ _
+        (λ l j. open-flips s l (well .known l j .0) t)
+
+    centre-steps : (m : ℕ) → met m it ≡ false →
+        Steps (opposite literal) literal (count (isOpen (centred m))) (count (isOpen (centred (toggle m (bitOf it))))) c
+    centre-steps m u =
+        count-steps (opposite literal) literal c well (omega (arith, both-count literal c (well .once))) _ _
+        (λ l j. open-toggles m l (well .known l j .0) u)
+
+module _ (k literal : ℕ) (occ from to : List ℕ) (known : IsLiteral literal) (size : length to ≡ planeCells)
+    (first : Shifted k firstCounter literal (opposite literal) occ from to) where
+  -- In a call the literal's row takes one from the open literals, and no row adds one;
+  pub flips : Shifted k secondCounter 0 literal occ from to → Flips k literal occ from to
+  unfolding reading flip
+  flips second =
       record {
-        size = h .size;
-        met = λ cells m r u c.
-            shifted-counts (r .table .room) (flip-rows literal known) (r .occurs) c (steps cells m r u) to h;
+        size = size;
+        shows = λ cells s r t h.
+            record {
+              met = shifted-counts (r .table .room) (flip-rows literal known) (r .occurs) (h .met)
+                  (λ i l. met-steps literal known k cells occ r i l (s .assignment) (t .unmet)) to first;
+              «open» = shifted-counts (r .table .room) (omega arith, known .1) (r .occurs) (h .«open»)
+                  (λ i l. open-steps literal known k cells occ r i l s t) to second;
+            };
       }
 
-  pub settles : (planes : List ℕ) (b : Bool) → AboveZero k literal (opposite literal) occ planes b →
-      Settles k literal occ planes b
-  unfolding flip
-  settles planes b h =
+  -- from centre to centre its opposite's row adds one.
+  pub toggles : Shifted k secondCounter (opposite literal) literal occ from to → Toggles k literal occ from to
+  unfolding reading
+  toggles second =
       record {
-        answer = λ cells s r shows t.
-            let m = s .assignment in
-            (λ i. every (λ c. reads (flip s (literalOf literal)) c i) (held k cells))
-            ∙ sym (h .answer cells (count (met m)) (count (met (after m))) (r .occurs) (shows .met) (steps cells m r (t .unmet)));
+        size = size;
+        shows = λ cells m r u h.
+            let rows = flip-rows literal known in
+            record {
+              met = shifted-counts (r .table .room) rows (r .occurs) (h .met)
+                  (λ i l. met-steps literal known k cells occ r i l m u) to first;
+              «open» = shifted-counts (r .table .room) (rows .1, rows .0) (r .occurs) (h .«open»)
+                  (λ i l. centre-steps literal known k cells occ r i l m u) to second;
+            };
       }
 
--- After the flip of a literal that may be tried, in a call, the planes show the state after it;
-pub flip-shows : {k literal : ℕ} {cells occ from to : List ℕ} {s : State} → Flips k literal occ from to →
-    Ready k cells occ → Tryable s (literalOf literal) →
-    Shows k cells s from → Shows k cells (flip s (literalOf literal)) to
-unfolding flip
-flip-shows f r t h = record { met = f .met _ _ r (t .unmet) (h .met) }
-
--- at a centre, they show the centre with its variable toggled.
-pub toggle-shows : {k literal m : ℕ} {cells occ from to : List ℕ} → Flips k literal occ from to →
-    Ready k cells occ → met m (literalOf literal) ≡ false →
-    Shows k cells (centred m) from → Shows k cells (centred (toggle m (bitOf (literalOf literal)))) to
-toggle-shows f r u h = record { met = f .met _ _ r u (h .met) }
+pub settles : (k literal : ℕ) (occ : List ℕ) → IsLiteral literal → (planes : List ℕ) (b : Bool) →
+    AboveZero k literal (opposite literal) occ planes b → Settles k literal occ planes b
+unfolding reading flip
+settles k literal occ known planes b h =
+    record {
+      answer = λ cells s r shows t.
+          (λ i. every (λ c. true-met (flip s (literalOf literal)) c i) (held k cells))
+          ∙ sym (h .answer cells _ _ (r .occurs) (shows .met)
+          (λ i l. met-steps literal known k cells occ r i l (s .assignment) (t .unmet)));
+    }

@@ -3,11 +3,13 @@
 pub mod Ball
 pub mod Run
 pub mod Machine
+pub mod ReadingLaws
 pub mod RuleLaws
 pub mod CentreLaws
 pub mod RunLaws
 pub mod CallLaws
 pub mod CountLaws
+pub mod ClauseLaws
 pub mod MachineLaws
 pub mod BallsLaws
 pub mod LayoutLaws

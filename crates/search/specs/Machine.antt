@@ -3,21 +3,23 @@ use mathlib.Core.Path.{_≡_}
 use mathlib.Core.Bool.{Bool, true, false, cond}
 use mathlib.Core.List.{List, [], _∷_, _++_}
 use Prim.Native.Nat.{ℕ, _+_, _-_, _*_, _/_, _%_, _^_, _≤_, _<_, min}
-use lib.ListN.{length, getD, take, replicate}
+use lib.ListN.{length, getD, take, drop, replicate}
 use lib.Dec.{eqb}
 use Rattle.words.specs.Lists.{every, count}
 use Rattle.words.specs.Bits.{bit, toggle, width}
+use Rattle.words.specs.BitLaws.{digit}
 use Rattle.words.specs.Machine.{bitsOf}
-use Rattle.formula.specs.Formula.{Literal, bitOf, met, someMet, literalOf}
+use Rattle.formula.specs.Formula.{Literal, bitOf, met, literalOf}
 use Rattle.formula.specs.Machine.{Table, held, clauseAt, lengthAt}
 use Rattle.tree.specs.declared.Found.{Found}
 use Rattle.tree.specs.Explore.{Outcome, none, try}
 use Rattle.tree.specs.Budget.{Answer}
 use Rattle.tree.specs.BudgetLaws.{settle, rest}
 use Rattle.tree.specs.Machine.{answerIn}
-use Rattle.planes.specs.Machine.{planeCells, Occurs, Counts}
+use Rattle.planes.specs.Machine.{firstCounter, secondCounter, planeCells, Occurs, Counts}
 use Rattle.search.specs.declared.ball.Path.{Path}
-use Rattle.search.specs.Ball.{State, reading, isFlipped, flip, isTried, tried, skip, rule, ballSearch}
+use Rattle.search.specs.declared.reading.Reading.{Reading as ClauseReading}
+use Rattle.search.specs.Ball.{State, Reading, reading, isTrue, isFlipped, isOpen, flip, isTried, tried, skip, rule, ballSearch}
 use Rattle.search.specs.Run.{Block, Search, plan, blocks, summedRadius, centreAt, ball, centreCount}
 use Rattle.search.specs.declared.centre.Layout.{Layout}
 use Rattle.search.specs.declared.centre.Partial.{Partial}
@@ -42,9 +44,10 @@ IsLiteral w = (2 ≤ w) × (w < 2 * width + 2)
 
 -- ---- what is counted
 
--- The planes show a state: how many literals of each clause its assignment meets.
+-- The planes show a state: the two numbers of each clause's reading in it.
 pub record Shows (k : ℕ) (cells : List ℕ) (s : State) (planes : List ℕ) : Type 0 where
-  pub met : Counts k cells (count (met (s .assignment))) planes
+  pub met : Counts k cells firstCounter (λ c. reading s c .met) planes
+  pub «open» : Counts k cells secondCounter (λ c. reading s c .«open») planes
 
 -- A literal that a call may try: it is not met, and its variable is not flipped.
 pub record Tryable (s : State) (l : Literal) : Type 0 where
@@ -59,21 +62,44 @@ pub record Begins (n k : ℕ) (occ planes : List ℕ) : Type 0 where
 -- r is the number of the clause whose literals the rule tries, or k where all clauses are true.
 pub record Chosen (k : ℕ) (cells : List ℕ) (s : State) (r : ℕ) : Type 0 where
   pub within : r ≤ k
-  pub all : r ≡ k → every (reading s) (held k cells) ≡ true
-  pub some : r < k → every (reading s) (held k cells) ≡ false
+  pub all : r ≡ k → every (isTrue s) (held k cells) ≡ true
+  pub some : r < k → every (isTrue s) (held k cells) ≡ false
   pub literals : r < k → rule (held k cells) s ≡ tried (skip (held k cells)) s (clauseAt cells r)
-  pub failing : r < k → someMet (s .assignment) (clauseAt cells r) ≡ false
+  pub failing : r < k → isTrue s (clauseAt cells r) ≡ false
 
--- The flip of a literal that m does not meet moves the counts of m to those of m with its variable toggled.
+-- The flip of a literal in a call: the planes show the state after it,
 pub record Flips (k literal : ℕ) (occ from to : List ℕ) : Type 0 where
   pub size : length to ≡ planeCells
-  pub met : (cells : List ℕ) (m : ℕ) → Ready k cells occ → met m (literalOf literal) ≡ false →
-      Counts k cells (count (met m)) from → Counts k cells (count (met (toggle m (bitOf (literalOf literal))))) to
+  pub shows : (cells : List ℕ) (s : State) → Ready k cells occ → Tryable s (literalOf literal) →
+      Shows k cells s from → Shows k cells (flip s (literalOf literal)) to
+
+-- and its toggle at a centre: they show the centre with its variable toggled.
+pub record Toggles (k literal : ℕ) (occ from to : List ℕ) : Type 0 where
+  pub size : length to ≡ planeCells
+  pub shows : (cells : List ℕ) (m : ℕ) → Ready k cells occ → met m (literalOf literal) ≡ false →
+      Shows k cells (centred m) from → Shows k cells (centred (toggle m (bitOf (literalOf literal)))) to
 
 -- Whether all clauses are true after the flip of a literal.
 pub record Settles (k literal : ℕ) (occ planes : List ℕ) (r : Bool) : Type 0 where
   pub answer : (cells : List ℕ) (s : State) → Ready k cells occ → Shows k cells s planes → Tryable s (literalOf literal) →
-      every (reading (flip s (literalOf literal))) (held k cells) ≡ r
+      every (isTrue (flip s (literalOf literal))) (held k cells) ≡ r
+
+-- ---- the reading of one clause
+
+-- the machine's reading as the definition's
+unfoldable pub readingIn : ClauseReading → Reading
+readingIn r = record { met = r .met; «open» = r .«open» }
+
+-- The reading q counts one literal more than p.
+pub record Counted (s : State) (l : Literal) (p q : Reading) : Type 0 where
+  pub met : q .met ≡ p .met + digit (met (s .assignment) l)
+  pub «open» : q .«open» ≡ p .«open» + digit (isOpen s l)
+
+-- The literals of clause i from number j on, added to the reading r, make the clause's.
+pub record Counting (s : State) (cells : List ℕ) (i j : ℕ) (r : Reading) : Type 0 where
+  pub within : j ≤ lengthAt cells i
+  pub met : r .met + count (met (s .assignment)) (drop j (clauseAt cells i)) ≡ reading s (clauseAt cells i) .met
+  pub «open» : r .«open» + count (isOpen s) (drop j (clauseAt cells i)) ≡ reading s (clauseAt cells i) .«open»
 
 -- ---- a call
 
@@ -95,7 +121,7 @@ pub record Trying (k : ℕ) (cells occ planes : List ℕ) (s : State) (clause j 
   pub ready : Ready k cells occ
   pub shows : Shows k cells s planes
   pub inside : clause < k
-  pub failing : someMet (s .assignment) (clauseAt cells clause) ≡ false
+  pub failing : isTrue s (clauseAt cells clause) ≡ false
   pub flips : 0 < left
   pub enough : calls ≤ budget
   pub more : j ≤ lengthAt cells clause

@@ -124,7 +124,7 @@ module _ {k : ℕ} {cells occ planes : List ℕ} {s : State} {clause j left call
           ready = t .ready;
           shows = t .shows;
           known = trying-known;
-          unmet = false-unmet (s .assignment) (clauseAt cells clause) (t .failing) _ (row-in trying-row j trying-left);
+          unmet = false-unmet s (clauseAt cells clause) (t .failing) _ (row-in trying-row j trying-left);
           flips = t .flips;
           enough = t .enough;
         }

@@ -16,17 +16,13 @@ use Rattle.words.specs.Bits.{bit, toggle, distance}
 use Rattle.words.specs.BitLaws.{bit-toggle-same, bit-toggle-other, toggle-lt, distance-toggle, distance-zero}
 use Rattle.formula.specs.Formula.{Literal, Clause, bitOf, met, someMet, allTrue}
 use Rattle.tree.specs.Explore.{found, calls, powers}
-use Rattle.search.specs.Ball.{State, reading, isFlipped, flip, Rule, isTried, tried, branch, select, skip, rule, ballTree, ballSearch}
+use Rattle.search.specs.Ball.{State, isTrue, isFlipped, flip, Rule, isTried, tried, branch, select, skip, rule, ballTree, ballSearch}
 use Rattle.search.specs.Run.{longest}
+use Rattle.search.specs.ReadingLaws.{reading-true}
 use Rattle.tree.specs.TreeLaws.{Finds, explore-gives, explore-hit, explore-calls}
 
--- What a clause reads as is whether it is true: the one law of `reading`,
-pub reading-true : (s : State) (c : Clause) → reading s c ≡ someMet (s .assignment) c
-unfolding reading
-reading-true s c = refl
-
--- so that a goal of a ball's tree is a model.
-pub goal-model : (s : State) (cs : List Clause) → every (reading s) cs ≡ allTrue (s .assignment) cs
+-- A goal of a ball's tree is a model: `reading-true` is the one law of readings that is cited here.
+pub goal-model : (s : State) (cs : List Clause) → every (isTrue s) cs ≡ allTrue (s .assignment) cs
 unfolding allTrue
 goal-model s cs = λ i. every (λ c. reading-true s c i) cs
 
@@ -49,7 +45,7 @@ pub record Branches (n k : ℕ) (cs : List Clause) (s : State) (ls : List Litera
 
 -- A lawful rule: wherever some clause is false.
 unfoldable pub Lawful : ℕ → ℕ → List Clause → Rule → Type 0
-Lawful n k cs rule = (s : State) → allTrue (s .assignment) cs ≡ false → Branches n k cs s (rule s)
+Lawful n k cs rule = (s : State) → every (isTrue s) cs ≡ false → Branches n k cs s (rule s)
 
 -- ---- one ball under a lawful rule
 
@@ -80,9 +76,9 @@ agrees-flip s l w d h v e = go (eqb (bitOf l) v) refl
         ∙ sym (bit-toggle-other (s .assignment) (bitOf l) v other)
 
 module _ (n k : ℕ) (cs : List Clause) (rule : Rule) (lawful : Lawful n k cs rule) where
-  branches : (s : State) → every (reading s) cs ≡ false → Branches n k cs s (rule s)
+  branches : (s : State) → every (isTrue s) cs ≡ false → Branches n k cs s (rule s)
   unfolding Lawful
-  branches s g = lawful s (sym (goal-model s cs) ∙ g)
+  branches s g = lawful s g
 
   -- What a ball finds is a model below 2^n.
   pub ball-gives : (r : ℕ) (s : State) → s .assignment < 2 ^ n → (m c : ℕ) → ballSearch cs rule r s ≡ found m c →
@@ -102,10 +98,10 @@ module _ (n k : ℕ) (cs : List Clause) (rule : Rule) (lawful : Lawful n k cs ru
       Live : ℕ → State → Type 0
       Live q x = (x .assignment < 2 ^ n) × (distance (x .assignment) w ≤ q) × Agrees x w
 
-      here : (x : State) → Live 0 x → every (reading x) cs ≡ true
+      here : (x : State) → Live 0 x → every (isTrue x) cs ≡ true
       here x (p, d, a) = goal-model x cs ∙ rw (distance-zero n (x .assignment) w p below (omega arith)) model
 
-      there : (q : ℕ) (x : State) → Live (suc q) x → every (reading x) cs ≡ false →
+      there : (q : ℕ) (x : State) → Live (suc q) x → every (isTrue x) cs ≡ false →
           (l : Literal) × In l (rule x) × Live q (flip x l)
       there q x (p, d, a) g =
           let b : Branches n k cs x (rule x) = branches x g in
@@ -129,7 +125,7 @@ Known n cs = (c : Clause) → In c cs → (l : Literal) → In l c → (1 ≤ l 
 -- literal skipped.
 pub record Fair (cs : List Clause) (select : State → Clause) (skip : State → Literal → Bool) (s : State) : Type 0 where
   pub chosen : In (select s) cs
-  pub failing : someMet (s .assignment) (select s) ≡ false
+  pub failing : isTrue s (select s) ≡ false
   pub spared : (w : ℕ) → allTrue w cs ≡ true → Agrees s w → (l : Literal) → In l (select s) → skip s l ≡ true →
       met w l ≡ false
 
@@ -174,13 +170,15 @@ fails p (x ∷ xs) e = go (λ e′. fails p xs e′) (p x) e
     go below false e′ = refl
 
 -- a literal of a false clause is not met
-pub false-unmet : (m : ℕ) (c : Clause) → someMet m c ≡ false → (l : Literal) → In l c → met m l ≡ false
+pub false-unmet : (s : State) (c : Clause) → isTrue s c ≡ false → (l : Literal) → In l c → met (s .assignment) l ≡ false
 unfolding someMet
-false-unmet m c e l i = refute (met m l) (λ q. true≢false (sym (in-some (met m) c l i q) ∙ e))
+false-unmet s c e l i =
+    let m = s .assignment in
+    refute (met m l) (λ q. true≢false (sym (in-some (met m) c l i q) ∙ sym (reading-true s c) ∙ e))
 
 module _ (n : ℕ) (cs : List Clause) (known : Known n cs) where
   pub branch-lawful : (select : State → Clause) (skip : State → Literal → Bool) →
-      ((s : State) → allTrue (s .assignment) cs ≡ false → Fair cs select skip s) →
+      ((s : State) → every (isTrue s) cs ≡ false → Fair cs select skip s) →
       Lawful n (longest cs) cs (branch select skip)
   unfolding Lawful branch tried Known someMet allTrue
   branch-lawful select skip fair s g =
@@ -204,15 +202,15 @@ module _ (n : ℕ) (cs : List Clause) (known : Known n cs) where
       here l i = keep-in (isTried skip s) (select s) l i
 
       unmet : (l : Literal) → In l (select s) → met (s .assignment) l ≡ false
-      unmet l i = false-unmet (s .assignment) (select s) (f .failing) l i
+      unmet l i = false-unmet s (select s) (f .failing) l i
 
-  rule-fair : (s : State) → allTrue (s .assignment) cs ≡ false → Fair cs (select cs) (skip cs) s
+  rule-fair : (s : State) → every (isTrue s) cs ≡ false → Fair cs (select cs) (skip cs) s
   unfolding select skip
   rule-fair s g =
-      let (i, e) = first-has (λ c. not (reading s c)) cs [] (fails (reading s) cs (goal-model s cs ∙ g)) in
+      let (i, e) = first-has (λ c. not (isTrue s c)) cs [] (fails (isTrue s) cs g) in
       record {
         chosen = i;
-        failing = sym (reading-true s (select cs s)) ∙ not-true _ e;
+        failing = not-true _ e;
         spared = λ w model a l i′ e′. absurd (false≢true e′);
       }
 
@@ -226,7 +224,7 @@ pub rule-tried : (cs : List Clause) (s : State) → rule cs s ≡ tried (skip cs
 unfolding rule branch
 rule-tried cs s = refl
 
-pub select-first : (cs : List Clause) (s : State) → select cs s ≡ first (λ c. not (reading s c)) cs []
+pub select-first : (cs : List Clause) (s : State) → select cs s ≡ first (λ c. not (isTrue s c)) cs []
 unfolding select
 select-first cs s = refl
 

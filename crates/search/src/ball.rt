@@ -8,12 +8,12 @@ ghost use mathlib.Core.Path.{_≡_};
 ghost use mathlib.Core.List.{List};
 ghost use Prim.Native.Nat.{_≤_};
 ghost use lib.ListN.{length, drop};
-ghost use Rattle.formula.specs.Formula.{Clause, literalOf};
+ghost use Rattle.formula.specs.Formula.{Clause, met, literalOf};
 ghost use Rattle.formula.specs.Machine.{clauseAt};
 ghost use Rattle.tree.specs.BudgetLaws.{settle};
 ghost use Rattle.tree.specs.Machine.{answerIn};
 ghost use Rattle.planes.specs.Machine.{laneCount, planeCells};
-ghost use Rattle.search.specs.Ball.{flip, isTried, skip};
+ghost use Rattle.search.specs.Ball.{isFlipped, flip, isTried, skip};
 ghost use Rattle.search.specs.Machine.{stateIn, Ready, IsLiteral, Shows, Trying, Attempting, LastAttempt, callFrom, attemptFrom, literalsFrom};
 
 // Where a call stands: the assignment, and the variables flipped on the way to it.
@@ -23,13 +23,28 @@ pub struct Path {
 }
 
 impl Path {
+    pub fn meets(self, literal: u32) -> bool
+        requires { ⌜ IsLiteral literal ⌝ }
+        ensures { λ r. ⌜ r ≡ met (stateIn self .assignment) (literalOf literal) ⌝ }
+    {
+        let assignment = self.assignment;
+        assignment.test(literal / 2 - 1) == (literal % 2 == 0)
+    }
+
+    pub fn has_flipped(self, literal: u32) -> bool
+        requires { ⌜ IsLiteral literal ⌝ }
+        ensures { λ r. ⌜ r ≡ isFlipped (stateIn self) (literalOf literal) ⌝ }
+    {
+        let flipped = self.flipped;
+        flipped.test(literal / 2 - 1)
+    }
+
     // Whether a literal of the chosen clause is tried: its variable is not flipped yet.
     fn tries(self, literal: u32) -> bool
         requires { ⌜ IsLiteral literal ⌝ }
         ensures { λ r. ⌜ ((cs : List Clause) → r ≡ isTried (skip cs) (stateIn self) (literalOf literal)) ⌝ }
     {
-        let flipped = self.flipped;
-        !flipped.test(literal / 2 - 1)
+        !self.has_flipped(literal)
     }
 
     fn flip(self, literal: u32) -> Path

@@ -36,9 +36,8 @@ fn matched(
         return at;
     }
     let literal = formula::literal_word(!have, v);
-    let mut next = [0u64; PLANES];
-    counts::flip(occ, k, literal, planes, &mut next);
-    *planes = next;
+    let before = *planes;
+    counts::toggle(occ, k, literal, &before, planes);
     at.toggled(v)
 }
 

@@ -4,7 +4,10 @@ mod balls;
 mod centre;
 mod counts;
 mod layout;
+mod reading;
 
+pub use reading::Reading;
+pub use reading::clause_reading;
 use tree::Found;
 ghost use mathlib.Core.Path.{_≡_};
 ghost use Prim.Native.Nat.{_≤_};

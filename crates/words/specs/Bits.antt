@@ -1,7 +1,9 @@
 -- The bits of a natural number, of any width: an assignment, a set of variables and a code word are such numbers.
 use mathlib.Core.Bool.{Bool}
+use mathlib.Core.List.{List}
 use Prim.Native.Nat.{ℕ, _/_, _%_, _^_}
 use lib.Dec.{eqb}
+use lib.ListN.{getD}
 use lib.Bits.{bitXor}
 use lib.Count.{ones}
 
@@ -20,3 +22,7 @@ distance a b = ones (bitXor a b)
 -- how many variables an assignment has room for
 abbrev pub width : ℕ
 width = 32
+
+-- the number of an assignment as a host in C lends it, in words of 32 bits, the lowest first: one word
+unfoldable pub fromWords : List ℕ → ℕ
+fromWords ws = getD ws 0 0

@@ -1,6 +1,6 @@
 -- Laws of `count`: how many elements of a list pass a test.
 use mathlib.Core.Path.{_≡_, refl, sym, ap, _∙_}
-use mathlib.Core.Bool.{Bool, true, false, cond, not, _||_}
+use mathlib.Core.Bool.{Bool, true, false, cond, not, _&&_, _||_}
 use mathlib.Core.List.{List, [], _∷_, List·Memᴰ·head, List·Memᴰ·tail}
 use Prim.Native.Nat.{ℕ, zero, suc, _+_, _≤_}
 use native.Mathlib.Omega.{arith}
@@ -10,6 +10,10 @@ use borrow.Author.Tests.{eqb-true, not-false}
 use Rattle.words.specs.Lists.{In, some, keep, count}
 use Rattle.words.specs.ListLaws.{length-keep}
 use Rattle.words.specs.BitLaws.{digit}
+
+pub digit-not : (b : Bool) → digit (not b) + digit b ≡ 1
+digit-not true = refl
+digit-not false = refl
 
 module _ {A : Type 0} where
   pub count-cons : (p : A → Bool) (x : A) (xs : List A) → count p (x ∷ xs) ≡ digit (p x) + count p xs
@@ -68,3 +72,16 @@ module _ {A : Type 0} where
   -- a test that no element passes
   pub count-zero : (p : A → Bool) (xs : List A) → some p xs ≡ false → count p xs ≡ 0
   count-zero p xs e = eqb-true _ 0 (not-false _ (sym (some-count p xs) ∙ e))
+
+  -- the elements that pass one test and then another
+  pub count-keep : (p q : A → Bool) (xs : List A) → count q (keep p xs) ≡ count (λ x. p x && q x) xs
+  unfolding count keep
+  count-keep p q [] = refl
+  count-keep p q (x ∷ xs) =
+      go (p x)
+      ∙ ap (λ (n : ℕ). digit (p x && q x) + n) (count-keep p q xs)
+      ∙ sym (count-cons (λ y. p y && q y) x xs)
+    where
+      go : (b : Bool) → count q (cond b (x ∷ keep p xs) (keep p xs)) ≡ digit (b && q x) + count q (keep p xs)
+      go true = count-cons q x (keep p xs)
+      go false = omega arith

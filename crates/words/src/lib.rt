@@ -2,11 +2,14 @@
 // numbers.
 ghost use mathlib.Core.Path.{_≡_};
 ghost use Prim.Native.Nat.{_+_, _*_, _^_, _<_, min};
-ghost use Rattle.words.specs.Bits.{bit, toggle, width};
+ghost use Rattle.words.specs.Bits.{bit, toggle, width, fromWords};
 ghost use Rattle.words.specs.Machine.{bitsOf};
 
 // How many variables an assignment has room for (specs/Bits.antt).
 pub const WIDTH: u32 = 32;
+
+// The words of 32 bits that a host in C lends for an assignment.
+pub const WORDS: usize = WIDTH as usize / 32;
 
 // An assignment, or a set of variables: bit v - 1 of its number (specs/Machine.antt) belongs to
 // variable v.
@@ -25,6 +28,12 @@ impl Assignment {
         ensures { λ r. ⌜ bitsOf r ≡ 0 ⌝ }
     {
         Assignment { word: 0 }
+    }
+
+    pub fn from_words(words: &[u32; WORDS]) -> Assignment
+        ensures { λ r. ⌜ bitsOf r ≡ fromWords (now (words .entry)) ⌝ }
+    {
+        Assignment { word: words[0] }
     }
 
     pub fn test(self, v: u32) -> bool

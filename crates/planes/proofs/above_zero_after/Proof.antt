@@ -4,13 +4,13 @@ use Prim.Native.Nat.{ℕ, _-_, _^_, _≤_, _<_}
 use native.Mathlib.Omega.{arith}
 use borrow.Author.Needs.{needs}
 use borrow.Author.Count.{below-more}
-use Rattle.planes.specs.Machine.{lanes, wordsOf}
+use Rattle.planes.specs.Machine.{lanes, firstCounter, wordsOf}
 use Rattle.planes.specs.CountsLaws.{LeavesZero, above-after, zero-after}
 use Rattle.planes.proofs.above_zero_after.Statement.{statement}
 use Rattle.planes.proofs.above_zero_after.Tie as tie
 
 abbrev Inv-loop : tie.InvT-loop
-Inv-loop occ k up down planes words more less w₀ w = (w ≤ wordsOf k) × ((v : ℕ) → v < w → LeavesZero up down occ planes v 0)
+Inv-loop occ k up down planes words more less w₀ w = (w ≤ wordsOf k) × ((v : ℕ) → v < w → LeavesZero firstCounter up down occ planes v 0)
 
 abbrev μ-loop : tie.MeasureT-loop
 μ-loop occ k up down planes words more less w₀ w = words - w
@@ -22,8 +22,8 @@ sub-words c = search needs
 lanes-of : (c : tie.After-zeros-after Inv-loop μ-loop) →
     let at = c .before .before .before .before .before in
     let a = at .before .args in
-    LeavesZero (a .up) (a .down) (a .occ .now) (a .planes .now) (at .loop .w) (c .zeros-after .result)
-lanes-of c = rw (c .before .before .before .word-at .ensures) at (c .zeros-after .ensures)
+    LeavesZero firstCounter (a .up) (a .down) (a .occ .now) (a .planes .now) (at .loop .w) (c .zeros-after .result)
+lanes-of c = rw (c .before .before .before .slot-at .ensures) at (c .zeros-after .ensures)
 
 add-words : tie.Need-add-words Inv-loop μ-loop
 add-words c = omega arith
@@ -37,8 +37,11 @@ mul-less c = search needs
 loop-holds : tie.Need-loop-holds Inv-loop μ-loop
 loop-holds c = (omega arith, λ v l. absurd (omega arith))
 
-word-at-requires : tie.Need-word-at-requires Inv-loop μ-loop
-word-at-requires c κs = omega arith
+add-slot-at : tie.Need-add-slot-at Inv-loop μ-loop
+add-slot-at c = omega arith
+
+slot-at-requires : tie.Need-slot-at-requires Inv-loop μ-loop
+slot-at-requires c κs = omega arith
 
 add-zeros-after : tie.Need-add-zeros-after Inv-loop μ-loop
 add-zeros-after c = omega arith
@@ -102,7 +105,8 @@ above-zero-after-spec =
     mul-more
     mul-less
     loop-holds
-    word-at-requires
+    add-slot-at
+    slot-at-requires
     add-zeros-after
     mul-zeros-after
     element-copy-out-zeros-after

@@ -1,17 +1,20 @@
--- `shift` meets its contract: word by word, `moved` counts the lanes of one row up and those of the other down.
+-- `shift` meets its contract: word by word, `shift_slot` moves the slots of both counters.
 use Prim.Native.Nat.{_-_}
 use native.Mathlib.Omega.{arith}
-use Rattle.planes.specs.Machine.{wordsOf}
+use borrow.Author.Needs.{needs}
+use Rattle.planes.specs.Machine.{firstCounter, secondCounter, wordsOf}
 use Rattle.planes.specs.PlaneLaws.{FirstWords, words-none, words-step}
 use Rattle.planes.specs.CountsLaws.{MovesTo, all-shifted}
 use Rattle.planes.proofs.shift.Statement.{statement}
 use Rattle.planes.proofs.shift.Tie as tie
 
 abbrev Inv-loop : tie.InvT-loop
-Inv-loop occ k up down from to₀ words more less w₀ to w = FirstWords (MovesTo up down occ from) (wordsOf k) to w
+Inv-loop occ k first second from to₀ words w₀ to w =
+    FirstWords (MovesTo firstCounter (first .up) (first .down) occ from) (MovesTo secondCounter (second .up) (second .down) occ from)
+    (wordsOf k) to w
 
 abbrev μ-loop : tie.MeasureT-loop
-μ-loop occ k up down from to₀ words more less w₀ to w = words - w
+μ-loop occ k first second from to₀ words w₀ to w = words - w
 
 sub-words : tie.Need-sub-words Inv-loop μ-loop
 sub-words c = omega arith
@@ -19,41 +22,20 @@ sub-words c = omega arith
 add-words : tie.Need-add-words Inv-loop μ-loop
 add-words c = omega arith
 
-mul-more : tie.Need-mul-more Inv-loop μ-loop
-mul-more c = omega arith
-
-mul-less : tie.Need-mul-less Inv-loop μ-loop
-mul-less c = omega arith
-
 loop-holds : tie.Need-loop-holds Inv-loop μ-loop
-loop-holds c = words-none (c .pre .1 .1)
+loop-holds c = words-none (c .pre .1 .1 .1)
 
-word-at-requires : tie.Need-word-at-requires Inv-loop μ-loop
-word-at-requires c κs = omega arith
+add-shift-slot : tie.Need-add-shift-slot Inv-loop μ-loop
+add-shift-slot c = omega arith
 
-add-moved : tie.Need-add-moved Inv-loop μ-loop
-add-moved c = omega arith
+shift-slot-requires : tie.Need-shift-slot-requires Inv-loop μ-loop
+shift-slot-requires c κs = search needs
 
-mul-moved : tie.Need-mul-moved Inv-loop μ-loop
-mul-moved c = omega arith
+add-shift-slot-2 : tie.Need-add-shift-slot-2 Inv-loop μ-loop
+add-shift-slot-2 c = omega arith
 
-element-copy-out-moved : tie.Need-element-copy-out-moved Inv-loop μ-loop
-element-copy-out-moved c = omega arith
-
-add-moved-2 : tie.Need-add-moved-2 Inv-loop μ-loop
-add-moved-2 c = omega arith
-
-mul-moved-2 : tie.Need-mul-moved-2 Inv-loop μ-loop
-mul-moved-2 c = omega arith
-
-element-copy-out-moved-2 : tie.Need-element-copy-out-moved-2 Inv-loop μ-loop
-element-copy-out-moved-2 c = omega arith
-
-moved-requires : tie.Need-moved-requires Inv-loop μ-loop
-moved-requires c κs = omega arith
-
-put-word-requires : tie.Need-put-word-requires Inv-loop μ-loop
-put-word-requires c κs = omega arith
+shift-slot-requires-2 : tie.Need-shift-slot-requires-2 Inv-loop μ-loop
+shift-slot-requires-2 c κs = search needs
 
 add-w : tie.Need-add-w Inv-loop μ-loop
 add-w c = omega arith
@@ -63,15 +45,17 @@ loop-less c = omega arith
 
 loop-again : tie.Need-loop-again Inv-loop μ-loop
 loop-again c =
-    let read = c .before .before .before .before .before in
-    let here = rw (read .word-at .ensures) at (c .before .before .moved .ensures) in
-    let put = c .put-word .ensures in
-    words-step (read .before .before .loop .inv) (omega arith) (omega arith) (put .0) (put .1 .0) (put .1 .1) here
+    let turn = c .before .before .before .before .before in
+    let first = c .before .before .shift-slot .ensures in
+    let second = c .shift-slot2 .ensures in
+    words-step (turn .loop .inv) (omega arith) (omega arith) (first .stored) (first .moved) (second .stored) (second .moved)
 
 returns : tie.Need-returns Inv-loop μ-loop
 returns c =
-    let inv = c .before .loop .inv in
-    all-shifted _ _ _ _ _ _ (inv .size) (λ w l. inv .each w (omega arith))
+    let inv = c .before .loop .inv in (
+      inv .size,
+      (all-shifted _ _ _ _ _ _ _ (λ w l. inv .first w (omega arith)), all-shifted _ _ _ _ _ _ _ (λ w l. inv .second w (omega arith))),
+    )
 
 pub shift-spec : {M : Type 1} → statement M
 shift-spec =
@@ -81,18 +65,11 @@ shift-spec =
     μ-loop
     sub-words
     add-words
-    mul-more
-    mul-less
     loop-holds
-    word-at-requires
-    add-moved
-    mul-moved
-    element-copy-out-moved
-    add-moved-2
-    mul-moved-2
-    element-copy-out-moved-2
-    moved-requires
-    put-word-requires
+    add-shift-slot
+    shift-slot-requires
+    add-shift-slot-2
+    shift-slot-requires-2
     add-w
     loop-less
     loop-again

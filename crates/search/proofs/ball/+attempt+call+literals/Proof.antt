@@ -19,7 +19,6 @@ use Rattle.tree.specs.BudgetLaws.{settle}
 use Rattle.tree.specs.Machine.{answerIn}
 use Rattle.search.specs.Machine.{stateIn, Chosen, Tryable, Trying, callFrom, attemptFrom, literalsFrom}
 use Rattle.search.specs.MachineLaws.{in-spent, in-clear, in-none, in-literals, in-end, in-passed, in-tried, trying-row, trying-left, trying-end, trying-attempt, trying-next, trying-none, trying-made, trying-stops, attempt-tryable, not-none}
-use Rattle.search.specs.CountLaws.{flip-shows}
 use Rattle.search.proofs.ball.attempt.Reads as attempt
 use Rattle.search.proofs.ball.attempt.Kinds as attempt-kinds
 use Rattle.search.proofs.ball.+attempt+call+literals.Lts-attempt as attempt-lts
@@ -317,7 +316,7 @@ module _ (t : ℕ) where
       let d = c .before .before .before .before in
       let s = d .before .before in
       let a = s .pre .1 .0 in
-      let shown = flip-shows (c .before .before .flip .ensures) (a .ready) (tryable d) (a .shows) in
+      let shown = c .before .before .flip .ensures .shows _ _ (a .ready) (tryable d) (a .shows) in
       (omega (arith, s .pre .0, a .flips), (a .ready, rw (c .before .flip2 .ensures) shown))
 
   attempt-returns-2 : attempt-lts.Need-returns-2 (attempt-claims t) (attempt-at t) attempt.Post

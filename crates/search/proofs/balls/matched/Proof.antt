@@ -1,5 +1,5 @@
--- `matched` meets its contract: where the bits differ, the flip of the literal that is now met moves the planes.
-use mathlib.Core.Path.{refl, sym, ap}
+-- `matched` meets its contract: where the bits differ, the toggle of the literal that is now met moves the planes.
+use mathlib.Core.Path.{sym, ap}
 use mathlib.Core.Bool.{not}
 use borrow.Author.Needs.{needs}
 use Rattle.search.specs.BallsLaws.{sign-known, stays, toggles, matched-stays, matched-toggles}
@@ -21,21 +21,21 @@ returns c = (
 literal-word-requires : tie.Need-literal-word-requires
 literal-word-requires c κs = search needs
 
-flip-requires : tie.Need-flip-requires
-flip-requires c κs =
-    let s = c .before .before .before .before .before .before in
-    ((s .pre .0, rw (c .before .before .literal-word .ensures) (sign-known _ (s .args .v) (s .pre .1))), refl)
+toggle-requires : tie.Need-toggle-requires
+toggle-requires c κs =
+    let s = c .before .before .before .before .before .before .before in
+    ((s .pre .0, rw (c .before .before .before .literal-word .ensures) (sign-known _ (s .args .v) (s .pre .1))), s .pre .2)
 
 toggled-requires : tie.Need-toggled-requires
 toggled-requires c κs = search needs
 
 returns-2 : tie.Need-returns-2
 returns-2 c =
-    let apart = c .before .before .before .before .before in
+    let apart = c .before .before .before .before .before .before in
     let want = apart .before .test2 .ensures in
     let have = apart .before .before .test .ensures in
     let v = apart .before .before .before .args .v in
-    let flipped = rw (c .before .before .before .before .literal-word .ensures) at (c .before .flip .ensures) in (
+    let flipped = rw (c .before .before .before .before .before .literal-word .ensures) at (c .before .toggle .ensures) in (
       rw (c .toggled .ensures) (toggles _ _ _ _ _ v (ap not (sym have)) _ flipped),
       rw (c .toggled .ensures) (matched-toggles _ _ _ _ _ have want (apart .if1 .left)),
     )
@@ -43,4 +43,4 @@ returns-2 c =
 pub matched-spec : {M : Type 1} → statement M
 matched-spec =
     tie.close
-    (tie.spec test-requires test-requires-2 returns literal-word-requires flip-requires toggled-requires returns-2)
+    (tie.spec test-requires test-requires-2 returns literal-word-requires toggle-requires toggled-requires returns-2)

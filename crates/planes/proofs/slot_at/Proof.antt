@@ -1,9 +1,9 @@
--- `word_at` meets its contract: what it reads is `planesAt`.
+-- `slot_at` meets its contract: what it reads is `planesAt`.
 use mathlib.Core.Path.{refl}
 use native.Mathlib.Omega.{arith}
 use Rattle.planes.specs.Machine.{planesAt}
-use Rattle.planes.proofs.word_at.Statement.{statement}
-use Rattle.planes.proofs.word_at.Tie as tie
+use Rattle.planes.proofs.slot_at.Statement.{statement}
+use Rattle.planes.proofs.slot_at.Tie as tie
 
 mul-t3 : tie.Need-mul-t3
 mul-t3 c = omega arith
@@ -48,8 +48,8 @@ returns : tie.Need-returns
 unfolding planesAt
 returns c = refl
 
-pub word-at-spec : {M : Type 1} → statement M
-word-at-spec =
+pub slot-at-spec : {M : Type 1} → statement M
+slot-at-spec =
     tie.close
     (tie.spec
     mul-t3

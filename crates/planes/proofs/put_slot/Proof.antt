@@ -1,9 +1,8 @@
--- `put_word` meets its contract: its four stores are `stored`.
-use mathlib.Core.Path.{_∙_}
+-- `put_slot` meets its contract: its four stores are `stored`.
 use native.Mathlib.Omega.{arith}
-use Rattle.planes.specs.PlaneLaws.{stored-length, stored-same, stored-other}
-use Rattle.planes.proofs.put_word.Statement.{statement}
-use Rattle.planes.proofs.put_word.Tie as tie
+use Rattle.planes.specs.PlaneLaws.{stored-slot}
+use Rattle.planes.proofs.put_slot.Statement.{statement}
+use Rattle.planes.proofs.put_slot.Tie as tie
 
 mul-planes : tie.Need-mul-planes
 mul-planes c = omega arith
@@ -45,14 +44,10 @@ element-write-planes-4 : tie.Need-element-write-planes-4
 element-write-planes-4 c = omega arith
 
 returns : tie.Need-returns
-returns c =
-    let xs = c .args .planes .now in
-    let w = c .args .w in
-    let p = c .args .word in
-    (stored-length xs w p ∙ c .pre .1, (stored-same xs w p (c .pre .0) (c .pre .1), stored-other xs w p (c .pre .0)))
+returns c = stored-slot (c .args .planes .now) (c .args .slot) (c .args .word) (c .pre .0) (c .pre .1)
 
-pub put-word-spec : {M : Type 1} → statement M
-put-word-spec =
+pub put-slot-spec : {M : Type 1} → statement M
+put-slot-spec =
     tie.close
     (tie.spec
     mul-planes
