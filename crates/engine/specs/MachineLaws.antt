@@ -4,11 +4,9 @@ use mathlib.Core.Bool.{true, false}
 use mathlib.Core.List.{List, []}
 use Prim.Native.Nat.{ℕ, _≤_}
 use lib.ListN.{getD}
-use Rattle.words.specs.Bits.{width}
 use Rattle.words.specs.declared.Refusal.{Refusal}
-use Rattle.formula.specs.Machine.{SheetRead, Table, held}
+use Rattle.formula.specs.Machine.{SheetRead, held}
 use Rattle.formula.specs.ReadingLaws.{sheet-accepted, sheet-refused}
-use Rattle.formula.specs.ParseAccepted.{parse-well-formed}
 use Rattle.formula.specs.declared.Reading.{Reading}
 use Rattle.formula.specs.declared.Reading.the-variants.{Accepted, Refused as Stopped}
 use Rattle.code.specs.Code.{code}
@@ -24,13 +22,6 @@ use Rattle.engine.specs.Replies.{clauseCountsOf, clauseCountsTo}
 -- the numbers of an accepted plan
 pub plan-bounds : (size radius : ℕ) → coded? size radius ≡ true → (1 ≤ size) × (size ≤ 12) × (radius ≤ size)
 plan-bounds = coded-bounds
-
--- What was read can be searched.
-pub read-ready : (s : List ℕ) (r : Reading) (cells : List ℕ) (b n k : ℕ) → SheetRead s r cells → r ≡ Accepted b n k →
-    (n ≤ width) × Table n k cells
-read-ready s r cells b n k h e =
-    let read = sheet-accepted s r cells h b n k e in
-    (parse-well-formed s _ (read .0) .variables, read .1)
 
 module _ (size radius A : ℕ) (s : List ℕ) where
   -- a bad plan goes first;

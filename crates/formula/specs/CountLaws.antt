@@ -176,6 +176,13 @@ count-steps up down c f apart p q each =
       small = omega (arith, count-le q c, f .short);
     }
 
+-- The number of met literals moves so at the toggle of a variable: one up where the clause holds the literal that was not met, and one
+-- down where it holds its opposite.
+pub met-steps : {n : ℕ} (w : ℕ) → 2 ≤ w → (c : Clause) → WellFormedClause n c → (m : ℕ) → met m (literalOf w) ≡ false →
+    Steps w (opposite w) (count (met m)) (count (met (toggle m (bitOf (literalOf w))))) c
+met-steps w h c f m u =
+    count-steps w (opposite w) c f (both-count w c (f .once)) _ _ (λ l i. literal-toggles w m l h (f .known l i .0) u)
+
 -- the word 0 stands for no literal
 pub none-is : (l : Literal) → 1 ≤ l .variable → is 0 l ≡ false
 unfolding literalWord

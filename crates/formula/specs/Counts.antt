@@ -12,6 +12,10 @@ use Rattle.formula.specs.Formula.{Clause, literalWord}
 unfoldable pub signCount : Bool → Clause → ℕ
 signCount b c = count (λ l. Bool·beq (l .positive) b) c
 
+-- the word of the literal of variable v + 1, whose bit is v, with this sign
+abbrev pub signWord : Bool → ℕ → ℕ
+signWord b v = literalWord (record { variable = v + 1; positive = b })
+
 -- the clause holds the literal with the word w
 unfoldable pub holds : ℕ → Clause → Bool
 holds w c = some (λ l. eqb (literalWord l) w) c

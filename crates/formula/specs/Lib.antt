@@ -12,6 +12,7 @@ pub mod ParseRefused
 pub mod ParseReason
 pub mod SetLaws
 pub mod CountLaws
+pub mod SignLaws
 pub mod TableLaws
 pub mod HeldLaws
 pub mod ResultLaws

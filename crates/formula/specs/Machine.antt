@@ -52,6 +52,10 @@ pub record Table (n k : ℕ) (cells : List ℕ) : Type 0 where
   pub short : (i : ℕ) → i < k → lengthAt cells i ≤ lengthLimit
   pub each : (i : ℕ) → i < k → WellFormedClause n (clauseAt cells i)
 
+-- the word of a literal over the variables that an assignment has
+abbrev pub IsLiteral : ℕ → Type 0
+IsLiteral w = (2 ≤ w) × (w < 2 * width + 2)
+
 -- Row i can be read: the table has it, and its length is one that a clause can have.
 pub record Row (cells : List ℕ) (i : ℕ) : Type 0 where
   pub size : length cells ≡ cellCount

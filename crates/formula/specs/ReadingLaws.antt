@@ -1,15 +1,17 @@
 -- What a caller of the reader learns from its answer: the formula that the table holds, or why the sheet is refused.
 use mathlib.Core.Path.{_≡_, refl, sym, ap, _∙_}
 use mathlib.Core.List.{List}
-use Prim.Native.Nat.{ℕ}
+use Prim.Native.Nat.{ℕ, _≤_}
 use lib.ListN.{length}
 use Rattle.words.specs.ListLaws.{apart}
+use Rattle.words.specs.Bits.{width}
 use Rattle.words.specs.declared.Refusal.{Refusal}
 use Rattle.formula.specs.declared.Reading.{Reading}
 use Rattle.formula.specs.declared.Reading.the-variants.{Accepted, Refused}
 use Rattle.formula.specs.Formula.{Formula}
 use Rattle.formula.specs.Machine.{held, Table, readingOf, SheetRead}
 use Rattle.formula.specs.Sheet.{Result, accepted, refused, parse}
+use Rattle.formula.specs.ParseAccepted.{parse-well-formed}
 use Rattle.formula.specs.ResultLaws.{same-refusal}
 
 -- ---- what an accepted, and what a refused reading came from
@@ -40,3 +42,10 @@ module _ (s : List ℕ) (r : Reading) (cells : List ℕ) (h : SheetRead s r cell
 
   pub sheet-refused : (x : Refusal) → r ≡ Refused x → parse s ≡ refused (x .number) (x .place)
   sheet-refused x e = reading-refused (parse s) x (sym (h .answer) ∙ e)
+
+-- What was read can be worked on: the table holds it, and an assignment has room for its variables.
+pub read-ready : (s : List ℕ) (r : Reading) (cells : List ℕ) (b n k : ℕ) → SheetRead s r cells → r ≡ Accepted b n k →
+    (n ≤ width) × Table n k cells
+read-ready s r cells b n k h e =
+    let read = sheet-accepted s r cells h b n k e in
+    (parse-well-formed s _ (read .0) .variables, read .1)

@@ -2,6 +2,7 @@
 -- literal by literal.
 use mathlib.Core.Path.{_≡_, refl, sym, ap, _∙_}
 use mathlib.Core.Logic.{⊎-elim}
+use mathlib.Core.Bool.{Bool}
 use mathlib.Core.List.{List, [], _∷_, _++_, map, map-append, List·Memᴰ·head, List·Memᴰ·tail, List·Memᴰ·cases-cons, List·Memᴰ·not-nil}
 use Prim.Native.Nat.{ℕ, zero, suc, _+_, _*_, _≤_, _<_}
 use native.Mathlib.Nat.{zero-add, suc-add, add-zero, add-suc, le-trans}
@@ -9,8 +10,10 @@ use native.Mathlib.Numerals.{add-one}
 use native.Mathlib.Omega.{arith}
 use lib.ListN.{length, getD, take, drop, length-map, length-drop, List·getD-map, List·getD-eq-default, drop-of-length-le}
 use lib.Seq.{take-take, take-nil, getD-take, length-take-le, drop-cons, getD-drop}
-use Rattle.words.specs.Lists.{In, span}
+use Rattle.words.specs.Lists.{In, keep, count, span}
 use Rattle.words.specs.ListLaws.{in-span, length-span, getD-span}
+use Rattle.words.specs.BitLaws.{digit}
+use Rattle.words.specs.CountLaws.{count-cons}
 use Rattle.formula.specs.Formula.{Literal, Clause, literalOf, lengthLimit, WellFormedClause}
 use Rattle.formula.specs.Machine.{rowCells, lengthAt, literalAt, clauseAt, held, Table, Row, Rows}
 
@@ -149,13 +152,24 @@ module _ {cells : List ℕ} {i : ℕ} (row : Row cells i) where
   pub row-in : (j : ℕ) → j < lengthAt cells i → In (literalOf (literalAt cells i j)) (clauseAt cells i)
   row-in j h = in-drop j (clauseAt cells i) _ (rw (row-cons j h) (List·Memᴰ·head refl))
 
--- a literal's cell is the word of a variable, 1 to n
+  -- the literals that pass a test are counted one by one
+  pub row-count : (p : Literal → Bool) (j : ℕ) → j < lengthAt cells i →
+      count p (drop j (clauseAt cells i)) ≡ digit (p (literalOf (literalAt cells i j))) + count p (drop (suc j) (clauseAt cells i))
+  row-count p j h = ap (count p) (row-cons j h) ∙ count-cons p _ _
+
+  pub row-counted : (p : Literal → Bool) (j : ℕ) → lengthAt cells i ≤ j → count p (drop j (clauseAt cells i)) ≡ 0
+  unfolding count keep
+  row-counted p j h = ap (count p) (row-end j h)
+
+  -- a literal's cell is the word of a variable, 1 to n
+  pub row-known : (n : ℕ) → WellFormedClause n (clauseAt cells i) → (j : ℕ) → j < lengthAt cells i →
+      (2 ≤ literalAt cells i j) × (literalAt cells i j < 2 * n + 2)
+  unfolding literalOf
+  row-known n f j h = let v = f .known (literalOf (literalAt cells i j)) (row-in j h) in (omega arith, omega arith)
+
 pub clause-known : (n k : ℕ) (cells : List ℕ) → Table n k cells → (i : ℕ) → i < k → (j : ℕ) → j < lengthAt cells i →
     (2 ≤ literalAt cells i j) × (literalAt cells i j < 2 * n + 2)
-unfolding literalOf
-clause-known n k cells table i inside j h =
-    let v = table .each i inside .known (literalOf (literalAt cells i j)) (row-in (table-row table i inside) j h) in
-    (omega arith, omega arith)
+clause-known n k cells table i inside = row-known (table-row table i inside) n (table .each i inside)
 
 -- a table over n variables is one over more
 pub table-wider : (n m k : ℕ) (cells : List ℕ) → n ≤ m → Table n k cells → Table m k cells

@@ -5,6 +5,7 @@ mod sets;
 mod table;
 
 pub use literal::literal_word;
+pub use literal::meets;
 pub use sets::clause_stands;
 pub use sets::same_clauses;
 pub use table::empty_table;

@@ -9,8 +9,8 @@ use lib.ListN.{length, getD}
 use Rattle.words.specs.Lists.{every}
 use Rattle.words.specs.Bits.{bit, width}
 use Rattle.words.specs.BitLaws.{digit}
-use Rattle.formula.specs.Formula.{Clause, literalWord}
-use Rattle.formula.specs.Counts.{signCount, holds, Steps}
+use Rattle.formula.specs.Formula.{Clause}
+use Rattle.formula.specs.Counts.{signCount, signWord, holds, Steps}
 use Rattle.formula.specs.Machine.{Table, clauseAt, held}
 use Rattle.planes.specs.declared.Planes.{Planes}
 
@@ -137,10 +137,6 @@ pub record AboveZero (k up down : ℕ) (occ from : List ℕ) (r : Bool) : Type 0
       ((i : ℕ) → i < k → Steps up down count next (clauseAt cells i)) → r ≡ every (λ c. not (eqb (next c) 0)) (held k cells)
 
 -- ---- the start
-
--- the word of the literal of variable v + 1 with this sign
-abbrev pub signWord : Bool → ℕ → ℕ
-signWord b v = literalWord (record { variable = v + 1; positive = b })
 
 -- in how many of the rows of the literals of the first v variables with this sign lane i is set
 unfoldable pub laneSum : List ℕ → Bool → ℕ → ℕ → ℕ

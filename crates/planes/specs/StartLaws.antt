@@ -13,26 +13,18 @@ use Rattle.words.specs.Lists.{count}
 use Rattle.words.specs.Bits.{bit, width}
 use Rattle.words.specs.BitLaws.{bit-zero, digit}
 use Rattle.words.specs.CountLaws.{count-adds, count-same, count-none}
-use Rattle.formula.specs.Formula.{Literal, WellFormedClause, literalWord, literalOf}
+use Rattle.formula.specs.Formula.{Literal, WellFormedClause, literalWord}
 use Rattle.formula.specs.Machine.{Table, clauseAt}
 use Rattle.planes.specs.declared.Planes.{Planes}
-use Rattle.planes.specs.Machine.{lanes, rowWords, laneCount, rowCount, wordsOf, countIn, planesAt, countAt, Counts, lane, Occurs, Moved, signWord, laneSum, Summed}
-use Rattle.formula.specs.Counts.{signCount}
-use Rattle.formula.specs.ParseEncode.{literal-word}
-use Rattle.formula.specs.CountLaws.{is, is-split, names?, holds-digit, sign-small}
+use Rattle.planes.specs.Machine.{lanes, rowWords, laneCount, rowCount, wordsOf, countIn, planesAt, countAt, Counts, lane, Occurs, Moved, laneSum, Summed}
+use Rattle.formula.specs.Counts.{signCount, signWord}
+use Rattle.formula.specs.CountLaws.{is, names?, holds-digit, sign-small}
+use Rattle.formula.specs.SignLaws.{sign-split}
 use Rattle.planes.specs.CountsLaws.{lane-held, lane-past}
 
 -- ---- the literals of the first v variables with one sign
 
--- the literal of variable v + 1 with the sign b
-sign-split : (b : Bool) (v : ℕ) (l : Literal) → is (signWord b v) l ≡ (Bool·beq (l .positive) b && names? (v + 1) l)
-unfolding literalOf
-sign-split b v l =
-    let it : Literal = record { variable = v + 1; positive = b } in
-    let same : literalOf (signWord b v) ≡ it = literal-word it in
-    is-split (signWord b v) l ∙ ap (λ (x : Literal). Bool·beq (l .positive) (x .positive) && names? (x .variable) l) same
-
--- it names a row of the table
+-- the literal of variable v + 1 with the sign b names a row of the table
 pub row-below : (b : Bool) (v : ℕ) → v < width → signWord b v < rowCount
 unfolding literalWord
 row-below true v h = omega arith

@@ -1,60 +1,29 @@
 -- The laws of the loop over the balls: the planes move from centre to centre, one toggle after the other.
 use mathlib.Core.Path.{_≡_, refl, sym, ap, _∙_, subst}
 use mathlib.Core.Logic.{_⊎_, ⊎-elim}
-use mathlib.Core.Bool.{Bool, true, false, cond, not, Bool·beq}
+use mathlib.Core.Bool.{Bool, true, false, not, Bool·beq}
 use mathlib.Core.List.{List}
-use Prim.Native.Nat.{ℕ, _+_, _-_, _*_, _/_, _^_, _≤_, _<_}
+use Prim.Native.Nat.{ℕ, _+_, _-_, _/_, _^_, _≤_, _<_}
 use native.Mathlib.Nat.{eq-or-lt-of-le, div-lt-iff-lt-mul, le-div-iff-mul-le, one-mul}
 use native.Mathlib.Omega.{arith}
 use lib.ListN.{length}
 use lib.Pow.{pow-pos}
 use Rattle.words.specs.ListLaws.{beq-true, beq-false}
-use Rattle.words.specs.Bits.{bit, toggle, width}
+use Rattle.words.specs.Bits.{bit, toggle}
 use Rattle.words.specs.BitLaws.{bit-toggle-same, bit-toggle-other, toggle-lt, bits-ext}
 use Rattle.words.specs.Machine.{bitsOf}
-use Rattle.formula.specs.Formula.{Literal, bitOf, met, literalWord, literalOf}
-use Rattle.formula.specs.ParseEncode.{literal-word}
+use Rattle.formula.specs.Counts.{signWord}
+use Rattle.formula.specs.SignLaws.{sign-bit, sign-unmet}
 use Rattle.tree.specs.declared.Found.{Found}
 use Rattle.tree.specs.declared.Found.the-variants.{None}
 use Rattle.tree.specs.Budget.{Answer}
 use Rattle.tree.specs.BudgetLaws.{settle, onward, onward-none, onward-stops, none-made, rest-ends, rest-goes-on}
 use Rattle.tree.specs.Machine.{answerIn}
-use Rattle.planes.specs.Machine.{planeCells, signWord}
+use Rattle.planes.specs.Machine.{planeCells}
 use Rattle.search.specs.declared.ball.Path.{Path}
 use Rattle.search.specs.Run.{Block, Search, ball, centreAt, centreCount, summedRadius}
 use Rattle.search.specs.CallLaws.{ball-some}
-use Rattle.search.specs.Machine.{stateIn, centred, callFrom, IsLiteral, Shows, Toggles, Moves, Matched, searchIn, ballsFrom, Before}
-
--- ---- the literal of a bit
-
-module _ (b : Bool) (v : ℕ) where
-  -- the literal of the bit v with the sign b
-  abbrev it : Literal
-  it = record { variable = v + 1; positive = b }
-
-  is-it : literalOf (signWord b v) ≡ it
-  is-it = literal-word it
-
-  pub sign-known : v < width → IsLiteral (signWord b v)
-  unfolding literalWord
-  sign-known h = go b
-    where
-      go : (x : Bool) → IsLiteral (2 * (v + 1) + cond x 0 1)
-      go true = (omega arith, omega arith)
-      go false = (omega arith, omega arith)
-
-  sign-bit : bitOf (literalOf (signWord b v)) ≡ v
-  unfolding bitOf
-  sign-bit = ap (λ (l : Literal). l .variable - 1) is-it ∙ omega arith
-
-  -- it is not met where the bit is the other value
-  sign-unmet : (m : ℕ) → not (bit m v) ≡ b → met m (literalOf (signWord b v)) ≡ false
-  unfolding met
-  sign-unmet m e = rw (sign-bit, ap (λ (l : Literal). l .positive) is-it, ← e) (go (bit m v))
-    where
-      go : (x : Bool) → Bool·beq x (not x) ≡ false
-      go true = refl
-      go false = refl
+use Rattle.search.specs.Machine.{stateIn, centred, callFrom, Shows, Toggles, Moves, Matched, searchIn, ballsFrom, Before}
 
 -- ---- one bit
 

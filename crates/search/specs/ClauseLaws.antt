@@ -1,17 +1,17 @@
 -- The laws of the loop that reads one clause: each literal adds to the reading.
-use mathlib.Core.Path.{_≡_, refl, ap, ap₂, _∙_}
-use mathlib.Core.Bool.{Bool, true, false}
+use mathlib.Core.Path.{_≡_, refl, ap, ap₂}
+use mathlib.Core.Bool.{true, false}
 use mathlib.Core.List.{List, []}
-use Prim.Native.Nat.{ℕ, suc, _+_, _≤_, _<_}
+use Prim.Native.Nat.{ℕ, _+_, _≤_, _<_}
 use native.Mathlib.Numerals.{add-one}
 use native.Mathlib.Omega.{arith}
-use lib.ListN.{length, drop}
+use lib.ListN.{length}
 use Rattle.words.specs.Lists.{keep, count}
 use Rattle.words.specs.BitLaws.{digit}
-use Rattle.words.specs.CountLaws.{count-cons, count-le}
+use Rattle.words.specs.CountLaws.{count-le}
 use Rattle.formula.specs.Formula.{Literal, met, lengthLimit, literalOf}
 use Rattle.formula.specs.Machine.{Row, clauseAt, lengthAt, literalAt}
-use Rattle.formula.specs.TableLaws.{row-cons, row-end, row-length}
+use Rattle.formula.specs.TableLaws.{row-count, row-counted, row-length}
 use Rattle.search.specs.Ball.{State, Reading, reading, isFlipped, isOpen}
 use Rattle.search.specs.ReadingLaws.{open-is}
 use Rattle.search.specs.Machine.{Counted, Counting}
@@ -56,17 +56,12 @@ module _ (s : State) (cells : List ℕ) (i : ℕ) (row : Row cells i) where
     counting-next q l e =
         record {
           within = omega arith;
-          met = rw add-one (omega (arith, e .met, h .met, split (met (s .assignment))));
-          «open» = rw add-one (omega (arith, e .«open», h .«open», split (isOpen s)));
+          met = rw add-one (omega (arith, e .met, h .met, row-count row (met (s .assignment)) j l));
+          «open» = rw add-one (omega (arith, e .«open», h .«open», row-count row (isOpen s) j l));
         }
-      where
-        split : (p : Literal → Bool) →
-            count p (drop j (clauseAt cells i)) ≡ digit (p (literalOf (literalAt cells i j))) + count p (drop (suc j) (clauseAt cells i))
-        split p = ap (count p) (row-cons row j l) ∙ count-cons p _ _
 
     pub counting-end : lengthAt cells i ≤ j → r ≡ reading s (clauseAt cells i)
-    unfolding reading count keep
+    unfolding reading
     counting-end l =
-        let end = row-end row j l in
         ap₂ {C = Reading} (λ (a b : ℕ). record { met = a; «open» = b })
-        (omega (arith, h .met, ap (count (met (s .assignment))) end)) (omega (arith, h .«open», ap (count (isOpen s)) end))
+        (omega (arith, h .met, row-counted row (met (s .assignment)) j l)) (omega (arith, h .«open», row-counted row (isOpen s) j l))

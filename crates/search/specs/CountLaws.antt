@@ -12,15 +12,15 @@ use Rattle.words.specs.BitLaws.{digit, bit-zero, bit-toggle-same}
 use Rattle.words.specs.CountLaws.{count-same, digit-not}
 use Rattle.formula.specs.Formula.{Literal, Clause, WellFormedClause, bitOf, met, literalOf}
 use Rattle.formula.specs.Counts.{signCount, opposite, Steps}
-use Rattle.formula.specs.CountLaws.{names?, is, opposite-lt, both-count, same-bit, same-is, other-is, other-bit, other-met, literal-toggles, count-steps, none-is, none-count}
-use Rattle.formula.specs.Machine.{held, clauseAt}
+use Rattle.formula.specs.CountLaws.{names?, is, opposite-lt, both-count, same-bit, same-is, other-is, other-bit, other-met, literal-toggles, count-steps, met-steps, none-is, none-count}
+use Rattle.formula.specs.Machine.{IsLiteral, held, clauseAt}
 use Rattle.formula.specs.HeldLaws.{held-every, held-fails, held-first}
 use Rattle.planes.specs.Machine.{rowCount, firstCounter, secondCounter, planeCells, Counts, FirstZero, Starts, Shifted, AboveZero}
 use Rattle.planes.specs.CountsLaws.{shifted-counts}
 use Rattle.search.specs.Ball.{State, isFlipped, isOpen, reading, isTrue, flip, tried, skip}
 use Rattle.search.specs.ReadingLaws.{open-is, true-met}
 use Rattle.search.specs.RuleLaws.{rule-tried, select-first}
-use Rattle.search.specs.Machine.{centred, Ready, IsLiteral, Tryable, Begins, Chosen, Flips, Toggles, Settles}
+use Rattle.search.specs.Machine.{centred, Ready, Tryable, Begins, Chosen, Flips, Toggles, Settles}
 
 -- ---- what is counted
 
@@ -135,12 +135,6 @@ module _ (literal : ℕ) (known : IsLiteral literal) where
     abbrev well : WellFormedClause width c
     well = r .table .each i h
 
-    met-steps : (m : ℕ) → met m it ≡ false →
-        Steps literal (opposite literal) (count (met m)) (count (met (toggle m (bitOf it)))) c
-    met-steps m u =
-        count-steps literal (opposite literal) c well (both-count literal c (well .once)) _ _
-        (λ l j. literal-toggles literal m l (known .0) (well .known l j .0) u)
-
     open-steps : (s : State) → Tryable s it → Steps 0 literal (count (isOpen s)) (count (isOpen (flip s it))) c
     open-steps s t =
         count-steps 0 literal c well (omega (arith, none-count c well, both-count literal c (well .once))) _ _
@@ -163,7 +157,7 @@ module _ (k literal : ℕ) (occ from to : List ℕ) (known : IsLiteral literal) 
         shows = λ cells s r t h.
             record {
               met = shifted-counts (r .table .room) (flip-rows literal known) (r .occurs) (h .met)
-                  (λ i l. met-steps literal known k cells occ r i l (s .assignment) (t .unmet)) to first;
+                  (λ i l. met-steps literal (known .0) _ (r .table .each i l) (s .assignment) (t .unmet)) to first;
               «open» = shifted-counts (r .table .room) (omega arith, known .1) (r .occurs) (h .«open»)
                   (λ i l. open-steps literal known k cells occ r i l s t) to second;
             };
@@ -179,7 +173,7 @@ module _ (k literal : ℕ) (occ from to : List ℕ) (known : IsLiteral literal) 
             let rows = flip-rows literal known in
             record {
               met = shifted-counts (r .table .room) rows (r .occurs) (h .met)
-                  (λ i l. met-steps literal known k cells occ r i l m u) to first;
+                  (λ i l. met-steps literal (known .0) _ (r .table .each i l) m u) to first;
               «open» = shifted-counts (r .table .room) (rows .1, rows .0) (r .occurs) (h .«open»)
                   (λ i l. centre-steps literal known k cells occ r i l m u) to second;
             };
@@ -193,5 +187,5 @@ settles k literal occ known planes b h =
       answer = λ cells s r shows t.
           (λ i. every (λ c. true-met (flip s (literalOf literal)) c i) (held k cells))
           ∙ sym (h .answer cells _ _ (r .occurs) (shows .met)
-          (λ i l. met-steps literal known k cells occ r i l (s .assignment) (t .unmet)));
+          (λ i l. met-steps literal (known .0) _ (r .table .each i l) (s .assignment) (t .unmet)));
     }

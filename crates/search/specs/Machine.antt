@@ -10,7 +10,7 @@ use Rattle.words.specs.Bits.{bit, toggle, width}
 use Rattle.words.specs.BitLaws.{digit}
 use Rattle.words.specs.Machine.{bitsOf}
 use Rattle.formula.specs.Formula.{Literal, bitOf, met, literalOf}
-use Rattle.formula.specs.Machine.{Table, held, clauseAt, lengthAt}
+use Rattle.formula.specs.Machine.{Table, IsLiteral, held, clauseAt, lengthAt}
 use Rattle.tree.specs.declared.Found.{Found}
 use Rattle.tree.specs.Explore.{Outcome, none, try}
 use Rattle.tree.specs.Budget.{Answer}
@@ -37,10 +37,6 @@ centred m = record { assignment = m; flipped = 0 }
 pub record Ready (k : ℕ) (cells occ : List ℕ) : Type 0 where
   pub table : Table width k cells
   pub occurs : Occurs k cells occ
-
--- the word of a literal over the variables that an assignment has
-abbrev pub IsLiteral : ℕ → Type 0
-IsLiteral w = (2 ≤ w) × (w < 2 * width + 2)
 
 -- ---- what is counted
 

@@ -13,7 +13,7 @@ use Rattle.words.specs.Bits.{width}
 use Rattle.words.specs.Machine.{bitsOf}
 use Rattle.words.specs.declared.Assignment.{Assignment}
 use Rattle.formula.specs.Formula.{Literal, Clause, literalOf}
-use Rattle.formula.specs.Machine.{Row, held, clauseAt, lengthAt, literalAt}
+use Rattle.formula.specs.Machine.{IsLiteral, Row, held, clauseAt, lengthAt, literalAt}
 use Rattle.formula.specs.TableLaws.{table-row, row-cons, row-end, row-in, clause-known}
 use Rattle.tree.specs.declared.Found.{Found}
 use Rattle.tree.proofs.Found.{the-type}
@@ -25,7 +25,7 @@ use Rattle.tree.specs.Machine.{answerIn}
 use Rattle.search.specs.Ball.{State, flip, isTried, tried, skip, rule}
 use Rattle.search.specs.RuleLaws.{tried-fresh, false-unmet}
 use Rattle.search.specs.CallLaws.{search-spent, search-clear, search-none, search-literals, try-tried}
-use Rattle.search.specs.Machine.{IsLiteral, Tryable, Chosen, Settles, Trying, Attempting, LastAttempt, callFrom, attemptFrom, literalsFrom}
+use Rattle.search.specs.Machine.{Tryable, Chosen, Settles, Trying, Attempting, LastAttempt, callFrom, attemptFrom, literalsFrom}
 
 module _ (k : ℕ) (cells : List ℕ) (left : ℕ) (s : State) (A c : ℕ) where
   -- ---- one call

@@ -9,12 +9,12 @@ ghost use mathlib.Core.List.{List};
 ghost use Prim.Native.Nat.{_≤_};
 ghost use lib.ListN.{length, drop};
 ghost use Rattle.formula.specs.Formula.{Clause, met, literalOf};
-ghost use Rattle.formula.specs.Machine.{clauseAt};
+ghost use Rattle.formula.specs.Machine.{IsLiteral, clauseAt};
 ghost use Rattle.tree.specs.BudgetLaws.{settle};
 ghost use Rattle.tree.specs.Machine.{answerIn};
 ghost use Rattle.planes.specs.Machine.{laneCount, planeCells};
 ghost use Rattle.search.specs.Ball.{isFlipped, flip, isTried, skip};
-ghost use Rattle.search.specs.Machine.{stateIn, Ready, IsLiteral, Shows, Trying, Attempting, LastAttempt, callFrom, attemptFrom, literalsFrom};
+ghost use Rattle.search.specs.Machine.{stateIn, Ready, Shows, Trying, Attempting, LastAttempt, callFrom, attemptFrom, literalsFrom};
 
 // Where a call stands: the assignment, and the variables flipped on the way to it.
 pub struct Path {
@@ -27,8 +27,7 @@ impl Path {
         requires { ⌜ IsLiteral literal ⌝ }
         ensures { λ r. ⌜ r ≡ met (stateIn self .assignment) (literalOf literal) ⌝ }
     {
-        let assignment = self.assignment;
-        assignment.test(literal / 2 - 1) == (literal % 2 == 0)
+        formula::meets(self.assignment, literal)
     }
 
     pub fn has_flipped(self, literal: u32) -> bool

@@ -9,9 +9,9 @@ ghost use lib.ListN.{getD};
 ghost use Rattle.words.specs.Bits.{width};
 ghost use Rattle.words.specs.Machine.{bitsOf};
 ghost use Rattle.formula.specs.Formula.{lengthLimit, literalOf};
-ghost use Rattle.formula.specs.Machine.{Table, held};
+ghost use Rattle.formula.specs.Machine.{Table, IsLiteral, held};
 ghost use Rattle.search.specs.Ball.{reading};
-ghost use Rattle.search.specs.Machine.{stateIn, readingIn, IsLiteral, Counted};
+ghost use Rattle.search.specs.Machine.{stateIn, readingIn, Counted};
 
 // How many literals of a clause are met, and how many are open.
 pub struct Reading {

@@ -3,10 +3,11 @@ use mathlib.Core.Path.{_≡_, sym, ap, _∙_}
 use mathlib.Core.Bool.{true}
 use borrow.Author.Needs.{needs}
 use borrow.Author.Tests.{not-true, not-false}
+use Rattle.formula.specs.ReadingLaws.{read-ready}
 use Rattle.code.specs.Operations.{coded?}
 use Rattle.engine.specs.Answers.{Verdict, refusal}
 use Rattle.engine.specs.Machine.{verdictIn, decisionIn}
-use Rattle.engine.specs.MachineLaws.{plan-bounds, read-ready, decide-bad, decide-declined, decide-searched}
+use Rattle.engine.specs.MachineLaws.{plan-bounds, decide-bad, decide-declined, decide-searched}
 use Rattle.engine.proofs.decide.Statement.{statement}
 use Rattle.engine.proofs.decide.Tie as tie
 

@@ -3,10 +3,11 @@ use mathlib.Core.Path.{ap, ap₂, _∙_}
 use Prim.Native.Nat.{ℕ}
 use Rattle.words.specs.Bits.{width}
 use Rattle.formula.specs.TableLaws.{table-wider}
+use Rattle.formula.specs.ReadingLaws.{read-ready}
 use Rattle.search.specs.Ball.{State}
 use Rattle.search.specs.Machine.{readingIn}
 use Rattle.engine.specs.Replies.{clauseCountsTo}
-use Rattle.engine.specs.MachineLaws.{read-ready, counts-declined, counts-read}
+use Rattle.engine.specs.MachineLaws.{counts-declined, counts-read}
 use borrow.Author.Needs.{needs}
 use Rattle.engine.proofs.exports.clause_counts.Statement.{statement}
 use Rattle.engine.proofs.exports.clause_counts.Tie as tie

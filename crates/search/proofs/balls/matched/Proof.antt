@@ -2,7 +2,8 @@
 use mathlib.Core.Path.{sym, ap}
 use mathlib.Core.Bool.{not}
 use borrow.Author.Needs.{needs}
-use Rattle.search.specs.BallsLaws.{sign-known, stays, toggles, matched-stays, matched-toggles}
+use Rattle.formula.specs.SignLaws.{sign-known}
+use Rattle.search.specs.BallsLaws.{stays, toggles, matched-stays, matched-toggles}
 use Rattle.search.proofs.balls.matched.Statement.{statement}
 use Rattle.search.proofs.balls.matched.Tie as tie
 

@@ -1,23 +1,15 @@
--- `Path::meets` meets its contract: a literal's word has its variable, and its sign in bit 0.
-use mathlib.Core.Path.{ap}
-use mathlib.Core.Bool.{Bool, Bool·beq}
-use Prim.Native.Nat.{_%_}
-use lib.Dec.{eqb}
-use Rattle.formula.specs.Formula.{bitOf, met, literalOf}
+-- `Path::meets` meets its contract: it is the assignment that meets a literal.
 use Rattle.search.specs.Machine.{stateIn}
 use borrow.Author.Needs.{needs}
 use Rattle.search.proofs.ball.Path.meets.Statement.{statement}
 use Rattle.search.proofs.ball.Path.meets.Tie as tie
 
-sub-test : tie.Need-sub-test
-sub-test c = search needs
-
-test-requires : tie.Need-test-requires
-test-requires c κs = search needs
+meets-requires : tie.Need-meets-requires
+meets-requires c κs = search needs
 
 returns : tie.Need-returns
-unfolding stateIn met bitOf literalOf
-returns c = ap (λ (b : Bool). Bool·beq b (eqb (c .before .before .args .literal % 2) 0)) (c .test .ensures)
+unfolding stateIn
+returns c = c .meets .ensures
 
 pub meets-spec : {M : Type 1} → statement M
-meets-spec = tie.close (tie.spec sub-test test-requires returns)
+meets-spec = tie.close (tie.spec meets-requires returns)
