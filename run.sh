@@ -41,7 +41,7 @@ build() {
         check clearing
         return
     fi
-    echo "proving the program's crates; the first time this takes a minute or two" >&2
+    echo "proving the program's crates; the first time this takes two or three minutes" >&2
     total=$(echo "$crates" | wc -l) at=0
     for crate in $crates; do
         at=$((at + 1))

@@ -101,6 +101,33 @@ static int reading(void)
     return ok;
 }
 
+/* Toggles of one variable after the other, beside plain C's, and beside the full reading of the sheet that they spare: plain C's, and a
+   question to clause_counts for each clause. */
+static int toggling(const char *what, uint32_t clauses)
+{
+    static struct plain_sheet sheet;
+    static struct plain_tally plain, full;
+    static uint8_t met[1024];
+    uint32_t marks[1], unmet, none[1] = { 0 };
+    int rounds = 3200, ok = tally_begin(bytes, length, marks, met, &unmet).number == 0 && plain_recount(bytes, length, &plain, &sheet) == 0;
+    double at = seconds();
+    for (int i = 0; i < rounds; i++) ok &= tally_toggle(bytes, length, 1 + i * 7 % 32, marks, met, &unmet).number == 0;
+    double mid = seconds();
+    for (int i = 0; i < rounds; i++) ok &= plain_toggle(bytes, length, 1 + i * 7 % 32, &plain, &sheet) == 0;
+    double end = seconds();
+    full.marks = marks[0];
+    for (int i = 0; i < rounds; i++) ok &= plain_recount(bytes, length, &full, &sheet) == 0;
+    double last = seconds();
+    for (uint32_t i = 0; i < clauses; i++) ok &= clause_counts(bytes, length, i, marks, none).met == met[i];
+    double asked = seconds();
+    ok &= marks[0] == plain.marks && unmet == plain.unmet && memcmp(met, plain.met, 1024) == 0;
+    ok &= unmet == full.unmet && memcmp(met, full.met, 1024) == 0;
+    printf("%-44s %8.1f us  plain %8.1f us  ratio %.2f  full reading: plain %8.1f us, by clause_counts %8.1f us%s\n", what,
+           (mid - at) / rounds * 1e6, (end - mid) / rounds * 1e6, (mid - at) / (end - mid), (last - end) / rounds * 1e6,
+           (asked - last) * 1e6, ok ? "" : "  DIFFERENT ANSWERS");
+    return ok;
+}
+
 /* The code of length 12, for each radius. */
 static int codes(void)
 {
@@ -140,7 +167,10 @@ int main(void)
     ok &= search("n 32, 160 clauses of 3, plan 8, 0", 8, 0, 20000000);
     make_eights();
     ok &= search("n 32, 1,024 clauses of 8, plan 8, 2", 8, 2, 5000000);
+    make(32, 1024, 3);
+    ok &= toggling("toggle a variable, 1,024 clauses of 3", 1024);
     make(32, 1024, 8);
+    ok &= toggling("toggle a variable, 1,024 clauses of 8", 1024);
     ok &= reading();
     return !ok;
 }

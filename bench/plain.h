@@ -1,5 +1,5 @@
-/* A plain C implementation of paper 01, as one would write it without proofs: masks per clause, the first false clause by a
-   scan. It is the baseline of bench/run and shares no code with the crates. */
+/* A plain C implementation of paper 01 and of paper 2 of 02, as one would write it without proofs: masks per clause, the first false
+   clause by a scan. It is the baseline of bench/run and shares no code with the crates. */
 #include <stdint.h>
 #include <string.h>
 
@@ -122,4 +122,44 @@ static int plain_run(uint32_t b, uint32_t s, uint32_t budget, const uint8_t *byt
         }
         if (i == blocks) return 2;
     }
+}
+
+struct plain_tally {
+    uint32_t marks, unmet;
+    uint8_t met[1024];
+};
+
+static uint32_t plain_within(int64_t x, uint32_t limit) { return x < 0 ? 0 : x > limit ? limit : (uint32_t)x; }
+
+/* A toggle of the tally: 0, or the refusal's number. */
+static int plain_toggle(const uint8_t *bytes, size_t length, uint32_t v, struct plain_tally *tally, struct plain_sheet *sheet)
+{
+    int refused = plain_read(bytes, length, sheet);
+    if (refused) return refused;
+    if (v == 0 || v > sheet->n) return 10;
+    uint32_t mask = 1u << (v - 1);
+    tally->marks ^= mask;
+    const uint32_t *up = tally->marks & mask ? sheet->positive : sheet->negative;
+    for (uint32_t i = 0; i < sheet->count; i++) {
+        if (!((sheet->positive[i] | sheet->negative[i]) & mask)) continue;
+        uint32_t before = tally->met[i], after = plain_within((int64_t)before + (up[i] & mask ? 1 : -1), sheet->length[i]);
+        tally->met[i] = after;
+        if (!before && after) tally->unmet = plain_within((int64_t)tally->unmet - 1, 1024);
+        if (before && !after) tally->unmet = plain_within((int64_t)tally->unmet + 1, 1024);
+    }
+    return 0;
+}
+
+/* The full reading of a sheet under the tally's marks: 0, or the refusal's number. */
+static int plain_recount(const uint8_t *bytes, size_t length, struct plain_tally *tally, struct plain_sheet *sheet)
+{
+    int refused = plain_read(bytes, length, sheet);
+    if (refused) return refused;
+    memset(tally->met, 0, sizeof tally->met);
+    tally->unmet = 0;
+    for (uint32_t i = 0; i < sheet->count; i++) {
+        tally->met[i] = plain_weight((tally->marks & sheet->positive[i]) | (~tally->marks & sheet->negative[i]));
+        tally->unmet += !tally->met[i];
+    }
+    return 0;
 }

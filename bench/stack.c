@@ -1,4 +1,4 @@
-/* Measures the stack that run, alike, clause_counts and covering_code take: each runs on a painted stack, and the paint left is counted.
+/* Measures the stack that run, alike, clause_counts, tally_toggle and covering_code take: each runs on a painted stack, and the paint left is counted.
    The sheet makes the search as deep as it can be, 32 flips: n 32, and in every block each variable within the radius. */
 #include <pthread.h>
 #include <stdio.h>
@@ -21,6 +21,14 @@ static void *do_run(void *unused) { run(1, 1, 1000000, sheet, length); return un
 static void *do_run_12(void *unused) { run(12, 12, 1000000, sheet, length); return unused; }
 static void *do_alike(void *unused) { alike(sheet, length, sheet, length); return unused; }
 static void *do_counts(void *unused) { uint32_t marks[1] = { 1 }; clause_counts(sheet, length, 0, marks, marks); return unused; }
+static void *do_toggle(void *unused)
+{
+    static uint32_t marks[1], unmet;
+    static uint8_t met[1024];
+    tally_begin(sheet, length, marks, met, &unmet);
+    tally_toggle(sheet, length, 1, marks, met, &unmet);
+    return unused;
+}
 static void *do_code(void *unused) { covering_code(12, 3, table, 4096); return unused; }
 static void *do_nothing(void *unused) { return unused; }
 
@@ -44,7 +52,8 @@ int main(void)
     for (uint32_t v = 1; v <= 32; v++) put(1u << 30 | 1), put(2 * v);
     put(1u << 30);
     size_t base = used(do_nothing);
-    printf("run %zu bytes (blocks of 12: %zu), alike %zu bytes, clause_counts %zu bytes, covering_code %zu bytes\n", used(do_run) - base,
-           used(do_run_12) - base, used(do_alike) - base, used(do_counts) - base, used(do_code) - base);
+    printf("run %zu bytes (blocks of 12: %zu), alike %zu bytes, clause_counts %zu bytes, tally_toggle %zu bytes, covering_code %zu bytes\n",
+           used(do_run) - base, used(do_run_12) - base, used(do_alike) - base, used(do_counts) - base, used(do_toggle) - base,
+           used(do_code) - base);
     return 0;
 }

@@ -1,7 +1,8 @@
 /* The engine's host in small: reads a sheet from a file and prints the engine's answer as the program `clearing` does, or how each
-   clause stands under an assignment and a set of flipped variables.
+   clause stands under an assignment and a set of flipped variables, or a tally after each toggle of a variable.
    clear BLOCK_LENGTH RADIUS BUDGET FILE
-   clear counts MARKS FLIPPED FILE */
+   clear counts MARKS FLIPPED FILE
+   clear tally FILE VARIABLE... */
 #include <stdio.h>
 #include <string.h>
 #include "../include/engine.h"
@@ -37,10 +38,18 @@ static int contents(const char *name, size_t *length)
     return !bad;
 }
 
-/* One line a clause, numbered from 1 as tools/sheet does: how it stands. In an accepted sheet a clause begins at each word of kind 1. */
+/* The clauses of an accepted sheet: each begins at a word of kind 1. */
+static uint32_t clauses(size_t length)
+{
+    uint32_t count = 0;
+    for (size_t word = 3; word < length / 4; word++) count += sheet[4 * word + 3] >> 6 == 1;
+    return count;
+}
+
+/* One line a clause, numbered from 1 as tools/sheet does: how it stands. */
 static int counts(char **argv)
 {
-    uint32_t marks[1], flipped[1], clause = 0;
+    uint32_t marks[1], flipped[1];
     size_t length;
     if (!number("MARKS", argv[2], marks) || !number("FLIPPED", argv[3], flipped) || !contents(argv[4], &length)) return 2;
     struct counts_reply r = clause_counts(sheet, length, 0, marks, flipped);
@@ -48,11 +57,42 @@ static int counts(char **argv)
         printf("refused %u place %u\n", r.number, r.place);
         return 0;
     }
-    for (size_t word = 3; word < length / 4; word++) {
-        if (sheet[4 * word + 3] >> 6 != 1) continue;
+    for (uint32_t clause = 0, count = clauses(length); clause < count; clause++) {
         r = clause_counts(sheet, length, clause, marks, flipped);
-        printf("clause %u met %u open %u\n", ++clause, r.met, r.open);
+        printf("clause %u met %u open %u\n", clause + 1, r.met, r.open);
     }
+    return 0;
+}
+
+/* The standing that a reply leaves, or the refusal. */
+static void standing(const char *after, struct tally_reply r, uint32_t marks, uint32_t unmet)
+{
+    if (r.number)
+        printf("%s refused %u place %u\n", after, r.number, r.place);
+    else
+        printf("%s marks %u false %u %s\n", after, marks, unmet, tally_holds(unmet) ? "all hold" : "not all hold");
+}
+
+/* One line for the beginning of a tally and for each toggle, and then one a clause. */
+static int tally(int argc, char **argv)
+{
+    static uint8_t met[1024];
+    uint32_t marks[1] = { 0 }, unmet = 0, variable;
+    size_t length;
+    for (int i = 3; i < argc; i++)
+        if (!number("VARIABLE", argv[i], &variable)) return 2;
+    if (!contents(argv[2], &length)) return 2;
+    struct tally_reply r = tally_begin(sheet, length, marks, met, &unmet);
+    standing("begin", r, marks[0], unmet);
+    if (r.number) return 0;
+    for (int i = 3; i < argc; i++) {
+        char after[32];
+        number("VARIABLE", argv[i], &variable);
+        snprintf(after, sizeof after, "toggle %u", variable);
+        r = tally_toggle(sheet, length, variable, marks, met, &unmet);
+        standing(after, r, marks[0], unmet);
+    }
+    for (uint32_t clause = 0, count = clauses(length); clause < count; clause++) printf("clause %u met %u\n", clause + 1, met[clause]);
     return 0;
 }
 
@@ -61,8 +101,9 @@ int main(int argc, char **argv)
     static const char *names[] = { "refused", "clear", "none", "spent" };
     uint32_t size, radius, budget;
     size_t length;
+    if (argc >= 3 && strcmp(argv[1], "tally") == 0) return tally(argc, argv);
     if (argc != 5) {
-        fprintf(stderr, "usage: clear BLOCK_LENGTH RADIUS BUDGET FILE\n       clear counts MARKS FLIPPED FILE\n");
+        fprintf(stderr, "usage: clear BLOCK_LENGTH RADIUS BUDGET FILE\n       clear counts MARKS FLIPPED FILE\n       clear tally FILE VARIABLE...\n");
         return 2;
     }
     if (strcmp(argv[1], "counts") == 0) return counts(argv);

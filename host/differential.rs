@@ -1,6 +1,6 @@
-// An independent implementation of paper 01 and of paper 1 of 02, compared with the proved library on many inputs: long
-// and short, valid and damaged. It shares no code with the crates. It prints how many answers of each kind agreed, and every
-// disagreement.
+// An independent implementation of paper 01 and of papers 1 and 2 of 02, compared with the proved library on many inputs: long
+// and short, valid and damaged, and for paper 2 tallies of the sheet, of other sheets, and of any numbers. It shares no code with
+// the crates. It prints how many answers of each kind agreed, and every disagreement.
 
 use std::collections::{BTreeSet, HashMap};
 
@@ -41,11 +41,30 @@ struct CountsReply {
     place: u32,
 }
 
+#[repr(C)]
+#[derive(Clone, Copy, Debug, Default, PartialEq)]
+struct TallyReply {
+    number: u32,
+    place: u32,
+}
+
+// A tally as it is lent. Its parts lie side by side, so that a write past one shows in the next.
+#[repr(C)]
+#[derive(Clone, PartialEq)]
+struct Lent {
+    marks: [u32; 1],
+    met: [u8; 1024],
+    unmet: u32,
+}
+
 mod library {
-    use super::{AlikeReply, CountsReply, NumberReply, Reply};
+    use super::{AlikeReply, CountsReply, NumberReply, Reply, TallyReply};
     extern "C" {
         pub fn run(b: u32, s: u32, budget: u32, sheet: *const u8, length: usize) -> Reply;
         pub fn clause_counts(sheet: *const u8, length: usize, clause: u32, marks: *const u32, flipped: *const u32) -> CountsReply;
+        pub fn tally_begin(sheet: *const u8, length: usize, marks: *mut u32, met: *mut u8, unmet: *mut u32) -> TallyReply;
+        pub fn tally_toggle(sheet: *const u8, length: usize, v: u32, marks: *mut u32, met: *mut u8, unmet: *mut u32) -> TallyReply;
+        pub fn tally_holds(unmet: u32) -> u32;
         pub fn alike(a: *const u8, a_length: usize, b: *const u8, b_length: usize) -> AlikeReply;
         pub fn covering_code(t: u32, s: u32, table: *mut u16, cells: usize) -> NumberReply;
         pub fn ball_volume(t: u32, s: u32) -> NumberReply;
@@ -62,6 +81,20 @@ fn library_counts(sheet: &[u8], asked: &Question) -> CountsReply {
     let (marks, flipped) = ([asked.marks], [asked.flipped]);
     let second = if marks == flipped { &marks } else { &flipped };
     unsafe { library::clause_counts(sheet.as_ptr(), sheet.len(), asked.clause, marks.as_ptr(), second.as_ptr()) }
+}
+
+fn library_begin(sheet: &[u8], lent: &mut Lent) -> TallyReply {
+    let Lent { marks, met, unmet } = lent;
+    unsafe { library::tally_begin(sheet.as_ptr(), sheet.len(), marks.as_mut_ptr(), met.as_mut_ptr(), unmet) }
+}
+
+fn library_toggle(sheet: &[u8], variable: u32, lent: &mut Lent) -> TallyReply {
+    let Lent { marks, met, unmet } = lent;
+    unsafe { library::tally_toggle(sheet.as_ptr(), sheet.len(), variable, marks.as_mut_ptr(), met.as_mut_ptr(), unmet) }
+}
+
+fn library_holds(unmet: u32) -> u32 {
+    unsafe { library::tally_holds(unmet) }
 }
 
 fn library_alike(a: &[u8], b: &[u8]) -> AlikeReply {
@@ -210,6 +243,130 @@ fn sayings(term: &[(u32, bool)], asked: &Question, got: &CountsReply) -> [(bool,
 fn clear_holds(bytes: &[u8], marks: u32) -> bool {
     let count = read(bytes).map_or(0, |sheet| sheet.terms.len() as u32);
     (0..count).all(|clause| library_counts(bytes, &Question { clause, marks, flipped: 0 }).met > 0)
+}
+
+// ---- the tally
+
+// A sheet's bytes, and what they read as.
+struct Input {
+    bytes: Vec<u8>,
+    sheet: Result<Sheet, Refused>,
+}
+
+impl Input {
+    fn new(bytes: Vec<u8>) -> Input {
+        let sheet = read(&bytes);
+        Input { bytes, sheet }
+    }
+
+    // Variables and terms; a sheet that is refused has 32 and none.
+    fn n(&self) -> u32 {
+        self.sheet.as_ref().map_or(32, |sheet| sheet.n)
+    }
+
+    fn terms(&self) -> &[Vec<(u32, bool)>] {
+        self.sheet.as_ref().map_or(&[], |sheet| &sheet.terms)
+    }
+}
+
+// A tally in whole numbers, so that each limit is one that the paper names.
+#[derive(PartialEq)]
+struct Tally {
+    marks: u32,
+    met: [i64; 1024],
+    unmet: i64,
+}
+
+impl Tally {
+    fn of(lent: &Lent) -> Tally {
+        Tally { marks: lent.marks[0], met: lent.met.map(i64::from), unmet: lent.unmet as i64 }
+    }
+
+    // Every term is read anew.
+    fn recount(sheet: &Sheet, marks: u32) -> Tally {
+        let unmet = sheet.terms.iter().filter(|t| !is_true(t, marks)).count() as i64;
+        let mut tally = Tally { marks, met: [0; 1024], unmet };
+        for (i, term) in sheet.terms.iter().enumerate() {
+            tally.met[i] = term.iter().filter(|l| met(l, marks)).count() as i64;
+        }
+        tally
+    }
+
+    fn begin(&mut self, sheet: &Result<Sheet, Refused>) -> TallyReply {
+        match sheet {
+            Ok(sheet) => *self = Tally::recount(sheet, 0),
+            Err(r) => return TallyReply { number: r.0, place: r.1 },
+        }
+        TallyReply::default()
+    }
+
+    fn toggle(&mut self, sheet: &Result<Sheet, Refused>, variable: u32) -> TallyReply {
+        let sheet = match sheet {
+            Ok(sheet) => sheet,
+            Err(r) => return TallyReply { number: r.0, place: r.1 },
+        };
+        if variable == 0 || variable > sheet.n {
+            return TallyReply { number: 10, place: 0 };
+        }
+        self.marks ^= 1 << (variable - 1);
+        for (i, term) in sheet.terms.iter().enumerate() {
+            let Some(l) = term.iter().find(|l| l.0 == variable) else {
+                continue;
+            };
+            let before = self.met[i];
+            let after = before + if met(l, self.marks) { 1 } else { -1 };
+            self.met[i] = after.clamp(0, term.len() as i64);
+            if before == 0 && self.met[i] != 0 {
+                self.unmet = (self.unmet - 1).clamp(0, 1024);
+            } else if before != 0 && self.met[i] == 0 {
+                self.unmet = (self.unmet + 1).clamp(0, 1024);
+            }
+        }
+        TallyReply::default()
+    }
+}
+
+// What paper 2 of 02 says of a toggle on any sheet, from the tally before and after alone: a refusal changes nothing; else there is
+// such a variable, its mark alone changes, and of the numbers only those of terms that name it, which are then within the length of
+// the term; and unmet is within its limits if it changed.
+fn toggle_says(input: &Input, variable: u32, reply: &TallyReply, before: &Lent, after: &Lent) -> bool {
+    if reply.number != 0 {
+        return after == before;
+    }
+    let terms = input.terms();
+    let number = |i: usize| {
+        let named = terms[i].iter().any(|l| l.0 == variable);
+        if named {
+            after.met[i] as usize <= terms[i].len()
+        } else {
+            after.met[i] == before.met[i]
+        }
+    };
+    (1..=input.n()).contains(&variable)
+        && after.marks[0] ^ before.marks[0] == 1 << (variable - 1)
+        && (0..terms.len()).all(number)
+        && after.met[terms.len()..] == before.met[terms.len()..]
+        && (after.unmet == before.unmet || after.unmet <= 1024)
+}
+
+// What differs: the replies, marks and unmet, and of the numbers those that do, each as it was lent, is expected and came.
+fn difference(expected: (TallyReply, &Tally), got: (TallyReply, &Lent), before: &Lent) -> String {
+    let came = Tally::of(got.1);
+    let differs = (0..1024).filter(|i| expected.1.met[*i] != came.met[*i]);
+    let numbers: Vec<_> = differs.map(|i| (i, before.met[i], expected.1.met[i], came.met[i])).take(8).collect();
+    let one = |reply: TallyReply, tally: &Tally| format!("{:?} marks {} unmet {}", reply, tally.marks, tally.unmet);
+    let lent = format!("marks {} unmet {}", before.marks[0], before.unmet);
+    format!("lent {}, expected {}, got {}, numbers {:?}", lent, one(expected.0, expected.1), one(got.0, &came), numbers)
+}
+
+// Whether a tally that begins on the sheet and toggles the variables of the marks says that all terms are true.
+fn tally_clears(bytes: &[u8], marks: u32) -> bool {
+    let mut lent = Lent { marks: [!marks], met: [5; 1024], unmet: 6 };
+    let mut fine = library_begin(bytes, &mut lent) == TallyReply::default();
+    for variable in (1..=32).filter(|v| bit(marks, *v)) {
+        fine &= library_toggle(bytes, variable, &mut lent) == TallyReply::default();
+    }
+    fine && lent.marks[0] == marks && library_holds(lent.unmet) == 1
 }
 
 // ---- the code, straight from its definition
@@ -404,12 +561,24 @@ fn nothing_agrees() -> bool {
     let run = unsafe { library::run(3, 1, 9, none, 0) };
     let word = [5];
     let counts = unsafe { library::clause_counts(none, 0, 0, word.as_ptr(), word.as_ptr()) };
+    let mut lent = Lent { marks: [3], met: [4; 1024], unmet: 5 };
+    let Lent { marks, met, unmet } = &mut lent;
+    let begun = unsafe { library::tally_begin(none, 0, marks.as_mut_ptr(), met.as_mut_ptr(), unmet) };
+    let toggled = unsafe { library::tally_toggle(none, 0, 0, marks.as_mut_ptr(), met.as_mut_ptr(), unmet) };
     let alike = unsafe { library::alike(none, 0, none, 0) };
     let code = unsafe { library::covering_code(1, 0, std::ptr::null_mut(), 0) };
     run == Reply { number: 2, ..Reply::default() }
         && counts == CountsReply { number: 2, ..CountsReply::default() }
+        && [begun, toggled] == [TallyReply { number: 2, place: 0 }; 2]
+        && lent == Lent { marks: [3], met: [4; 1024], unmet: 5 }
         && alike == AlikeReply { sheet: 1, number: 2, ..AlikeReply::default() }
         && code == NumberReply { number: 9, ..NumberReply::default() }
+}
+
+// A sheet of these clauses, a negative number being a negative literal.
+fn written(n: u32, clauses: &[&[i32]]) -> Vec<u8> {
+    let terms = clauses.iter().map(|c| c.iter().map(|l| (l.unsigned_abs(), *l > 0)).collect()).collect();
+    write(&Sheet { batch: 2, n, terms })
 }
 
 // Worked examples of the sources 000 and 002: variables, clauses, and whether a model exists.
@@ -422,11 +591,142 @@ fn sources_agree() -> bool {
         (4, &[&[1, 2, 3], &[-1, 2, -4]], true),
     ];
     examples.iter().all(|(n, clauses, model)| {
-        let terms = clauses.iter().map(|c| c.iter().map(|l| (l.unsigned_abs(), *l > 0)).collect()).collect();
-        let bytes = write(&Sheet { batch: 2, n: *n, terms });
+        let bytes = written(*n, clauses);
         let verdict = if *model { 1 } else { 2 };
         (1..=12).all(|b| (0..=b).all(|s| library_run((b, s), u32::MAX, &bytes).verdict == verdict))
     })
+}
+
+// ---- fixed tallies
+
+// Marks, the first numbers, and unmet.
+type State = (u32, &'static [u8], u32);
+
+// Past the first numbers every cell is 9.
+fn lend(state: State) -> Lent {
+    let mut met = [9; 1024];
+    met[..state.1.len()].copy_from_slice(state.1);
+    Lent { marks: [state.0], met, unmet: state.2 }
+}
+
+// The number of variables, the clauses, what is lent, the variable, the number of the refusal, and what the toggle leaves.
+type Toggle = (u32, &'static [&'static [i32]], State, u32, u32, State);
+
+const TOGGLES: [Toggle; 29] = [
+    // with n 0 there is no variable to toggle
+    (0, &[], (5, &[], 4), 1, 10, (5, &[], 4)),
+    (0, &[&[]], (5, &[3], 4), 0, 10, (5, &[3], 4)),
+    // variable 0, the first above n, and far above, also where the low bits are those of variable 1
+    (2, &[&[1], &[2]], (1, &[1, 0], 1), 0, 10, (1, &[1, 0], 1)),
+    (2, &[&[1], &[2]], (1, &[1, 0], 1), 3, 10, (1, &[1, 0], 1)),
+    (32, &[&[1], &[2]], (1, &[1, 0], 1), 33, 10, (1, &[1, 0], 1)),
+    (2, &[&[1], &[2]], (1, &[1, 0], 1), 257, 10, (1, &[1, 0], 1)),
+    (2, &[&[1], &[2]], (1, &[1, 0], 1), 0x8000_0001, 10, (1, &[1, 0], 1)),
+    (2, &[&[1], &[2]], (1, &[1, 0], 1), u32::MAX, 10, (1, &[1, 0], 1)),
+    // in sheet order: 0 loses one and stays, then gains one; counted at the end it would be 0
+    (1, &[&[1], &[-1]], (0, &[0, 1], 0), 1, 0, (1, &[1, 0], 1)),
+    // in sheet order: 1,024 gains one and stays, then loses one; counted at the end it would be 1,024
+    (1, &[&[-1], &[1]], (0, &[1, 0], 1024), 1, 0, (1, &[0, 1], 1023)),
+    // 5,000 stays where the variable is not named, and where a number moves but neither leaves 0 nor falls to it
+    (2, &[&[1]], (0, &[0], 5000), 2, 0, (2, &[0], 5000)),
+    (2, &[&[1, 2]], (2, &[1], 5000), 1, 0, (3, &[2], 5000)),
+    // 0 down is brought back to 0: it has not fallen
+    (1, &[&[-1]], (0, &[0], 5000), 1, 0, (1, &[0], 5000)),
+    // 5,000 is 1,024 after losing one, and after gaining one
+    (1, &[&[1]], (0, &[0], 5000), 1, 0, (1, &[1], 1024)),
+    (1, &[&[-1]], (0, &[1], 5000), 1, 0, (1, &[0], 1024)),
+    // the highest number gains one, and loses one
+    (1, &[&[-1]], (0, &[1], u32::MAX), 1, 0, (1, &[0], 1024)),
+    (1, &[&[1]], (0, &[0], u32::MAX), 1, 0, (1, &[1], 1024)),
+    // 1,025 loses one, and then 1,024 loses one
+    (1, &[&[1], &[1]], (0, &[0, 0], 1025), 1, 0, (1, &[1, 1], 1023)),
+    // 0 loses one, and 1 loses two
+    (1, &[&[1]], (0, &[0], 0), 1, 0, (1, &[1], 0)),
+    (1, &[&[1], &[1]], (0, &[0, 0], 1), 1, 0, (1, &[1, 1], 0)),
+    // 255 goes up to 256, and down to 254, before it is brought within the length
+    (2, &[&[1, 2]], (0, &[255], 3), 1, 0, (1, &[2], 3)),
+    (2, &[&[-1, 2]], (0, &[255], 3), 1, 0, (1, &[2], 3)),
+    // one above the length, up and down
+    (2, &[&[1, 2]], (0, &[3], 3), 1, 0, (1, &[2], 3)),
+    (2, &[&[-1, 2]], (0, &[3], 3), 1, 0, (1, &[2], 3)),
+    // a number above the length stays where the clause does not name the variable
+    (2, &[&[2], &[]], (0, &[200, 201], 3), 1, 0, (1, &[200, 201], 3)),
+    // all other bits of marks stay, also those above n
+    (1, &[&[1]], (0xffff_fffe, &[0], 1), 1, 0, (u32::MAX, &[1], 0)),
+    (1, &[&[1]], (u32::MAX, &[1], 0), 1, 0, (0xffff_fffe, &[0], 1)),
+    // the last variable has the highest bit
+    (32, &[&[1, -32], &[32]], (0, &[1, 0], 1), 32, 0, (1 << 31, &[0, 1], 1)),
+    (32, &[&[1, -32], &[32]], (1 << 31, &[0, 1], 1), 32, 0, (0, &[1, 0], 1)),
+];
+
+fn toggles_agree() -> bool {
+    TOGGLES.iter().all(|(n, clauses, before, variable, number, after)| {
+        let bytes = written(*n, clauses);
+        let mut got = lend(*before);
+        let mut own = Tally::of(&got);
+        let reply = TallyReply { number: *number, place: 0 };
+        let replies = [library_toggle(&bytes, *variable, &mut got), own.toggle(&read(&bytes), *variable)];
+        replies == [reply; 2] && got == lend(*after) && own == Tally::of(&got)
+    })
+}
+
+// Each of the sheet's own refusals goes before refusal 10, and leaves everything, as it does at the beginning.
+fn refusals_agree() -> bool {
+    let head = [3 << 30, 3 << 30, 2 << 30 | 2];
+    let sheet = |rest: &[u32]| -> Vec<u8> { head.iter().chain(rest).flat_map(|w| w.to_le_bytes()).collect() };
+    let refused = [
+        // too long goes before ragged, ragged before headless
+        (vec![0; 36_877], 5, 9_219),
+        (vec![0; 7], 1, 0),
+        (vec![0; 8], 2, 0),
+        (sheet(&[3 << 30]), 3, 3),
+        (sheet(&[1 << 30 | 2, 2]), 4, 5),
+        (written(33, &[]), 5, 2),
+        (sheet(&[1 << 30 | 9]), 5, 3),
+        (sheet(&[1 << 30; 1025]), 5, 1027),
+        (sheet(&[1 << 30 | 1, 6]), 6, 4),
+        (sheet(&[1 << 30 | 2, 2, 3]), 7, 5),
+    ];
+    refused.iter().all(|(bytes, number, place)| {
+        let expected = TallyReply { number: *number, place: *place };
+        let before = lend((6, &[1, 2, 3], 7));
+        let mut got = before.clone();
+        let toggled = [0, 1, 2, 3, 33, u32::MAX].iter().all(|v| library_toggle(bytes, *v, &mut got) == expected);
+        toggled && library_begin(bytes, &mut got) == expected && got == before
+    })
+}
+
+// A tally begins with marks 0 and the true numbers, whatever was lent.
+fn begins_agree() -> bool {
+    let bytes = written(2, &[&[1, -2], &[-1], &[], &[1, 2], &[-1, -2]]);
+    let mut expected = Lent { marks: [0], met: [0; 1024], unmet: 2 };
+    expected.met[..5].copy_from_slice(&[1, 1, 0, 0, 2]);
+    [(0, 0), (3, 1), (u32::MAX, u32::MAX)].iter().all(|(marks, unmet)| {
+        let mut got = lend((*marks, &[8, 0, 255], *unmet));
+        library_begin(&bytes, &mut got) == TallyReply::default() && got == expected
+    })
+}
+
+// A sheet without clauses holds at once; an empty clause is false under all marks; and 1,024 clauses fall and leave together.
+fn standings_agree() -> bool {
+    let numbers = |clauses: &[&[i32]], toggles: &[u32]| -> Vec<u32> {
+        let bytes = written(3, clauses);
+        let mut got = lend((8, &[], 77));
+        library_begin(&bytes, &mut got);
+        let first = got.unmet;
+        let mut after = |v: &u32| {
+            library_toggle(&bytes, *v, &mut got);
+            got.unmet
+        };
+        std::iter::once(first).chain(toggles.iter().map(&mut after)).collect()
+    };
+    // all eight marks of three variables
+    let empty = numbers(&[&[1, 2], &[], &[-3]], &[1, 2, 1, 3, 1, 2, 1]);
+    numbers(&[], &[1, 2, 3, 3]) == [0; 5]
+        && empty == [2, 1, 1, 1, 2, 2, 2, 3]
+        && numbers(&[&[1][..]; 1024], &[1, 2, 1, 1]) == [1024, 0, 0, 1024, 0]
+        && library_holds(0) == 1
+        && (0..32).all(|i| library_holds(1 << i) == 0 && library_holds(u32::MAX >> i) == 0)
 }
 
 // ---- inputs
@@ -567,6 +867,43 @@ fn random_question(r: &mut Random, clause: u32, term: &[(u32, bool)]) -> Questio
     Question { clause, marks, flipped }
 }
 
+// For a half of the toggles a variable of a false term, if there is one, so that sheets come to hold. A few name no variable.
+fn random_variable(r: &mut Random, input: &Input, marks: u32) -> u32 {
+    let n = input.n();
+    let lost = input.terms().iter().find(|t| !t.is_empty() && !is_true(t, marks));
+    match (r.below(40), lost) {
+        (0, _) => 0,
+        (1, _) => n + 1,
+        (2, _) => u32::MAX - r.below(3) as u32,
+        (3, _) => r.range(1, 70) as u32,
+        (4, _) => 1 << r.below(32) | r.below(33) as u32,
+        (5..=20, Some(term)) => term[r.below(term.len() as u64) as usize].0,
+        _ => r.range(1, n.max(1) as u64) as u32,
+    }
+}
+
+// Any numbers: those at the limits, those of true tallies, and others.
+fn random_lent(r: &mut Random) -> Lent {
+    let mut some = [0, 1, 2, 8, 9, 254, 255, 0, 0, 0, 0, 0, 0, 0, 0, 0];
+    some[7..12].fill_with(|| r.below(10) as u8);
+    some[12..].fill_with(|| r.below(256) as u8);
+    let unmet = match r.below(10) {
+        at @ 0..=7 => [0, 1, 2, 1023, 1024, 1025, 5000, u32::MAX][at as usize],
+        8 => r.below(1025) as u32,
+        _ => r.next() as u32,
+    };
+    let mut lent = Lent { marks: [r.next() as u32], met: [0; 1024], unmet };
+    lent.met.fill_with(|| some[r.below(16) as usize]);
+    lent
+}
+
+// The sheet, one like it or nearly, another, and the sheet damaged.
+fn random_family(r: &mut Random, bytes: &[u8]) -> [Input; 4] {
+    let mut damaged = bytes.to_vec();
+    damage(r, &mut damaged);
+    [bytes.to_vec(), relative(r, bytes), write(&random_sheet(r)), damaged].map(Input::new)
+}
+
 // ---- the comparison
 
 // How many answers of each kind there were, how often each saying applied, and how many disagreements.
@@ -578,6 +915,10 @@ struct Totals {
     terms: [u64; 4],
     sayings: [u64; 3],
     cleared: u64,
+    begun: [u64; 2],
+    toggles: [u64; 4],
+    twice: u64,
+    holding: u64,
     failed: u64,
 }
 
@@ -593,6 +934,10 @@ impl Totals {
         self.check(sources_agree(), || "an example of the sources differs".into());
         self.check(nothing_agrees(), || "an answer to an empty buffer differs".into());
         self.check(codes_agree(codes), || "codes, volumes or floors differ".into());
+        self.check(begins_agree(), || "the beginning of a fixed tally differs".into());
+        self.check(toggles_agree(), || "a fixed toggle differs".into());
+        self.check(refusals_agree(), || "a refusal of a fixed tally differs".into());
+        self.check(standings_agree(), || "what a fixed tally says of all terms differs".into());
     }
 
     fn alike(&mut self, r: &mut Random, bytes: &[u8]) {
@@ -642,15 +987,103 @@ impl Totals {
     fn cleared(&mut self, bytes: &[u8], marks: u32) {
         self.cleared += 1;
         self.check(clear_holds(bytes, marks), || format!("clear with marks {} sheet {:?}: a term has none met", marks, bytes));
+        self.check(tally_clears(bytes, marks), || format!("clear with marks {} sheet {:?}: the tally says no", marks, bytes));
+    }
+
+    fn begin(&mut self, input: &Input, lent: &mut Lent) {
+        let before = lent.clone();
+        let mut expected = Tally::of(lent);
+        let reply = expected.begin(&input.sheet);
+        let got = library_begin(&input.bytes, lent);
+        self.begun[input.sheet.is_ok() as usize] += 1;
+        let fine = got == reply && Tally::of(lent) == expected && (got.number == 0 || *lent == before);
+        let tell = || difference((reply, &expected), (got, lent), &before);
+        self.check(fine, || format!("begin sheet {:?}: {}", input.bytes, tell()));
+    }
+
+    // Compared with the independent toggle, with what the paper says of all toggles, and on its own sheet with a full reading.
+    fn toggle(&mut self, input: &Input, variable: u32, lent: &mut Lent, own: bool) {
+        let before = lent.clone();
+        let mut expected = Tally::of(lent);
+        let reply = expected.toggle(&input.sheet, variable);
+        let got = library_toggle(&input.bytes, variable, lent);
+        let kind = match reply.number {
+            0 => 2 + own as usize,
+            10 => 1,
+            _ => 0,
+        };
+        self.toggles[kind] += 1;
+        let said = toggle_says(input, variable, &got, &before, lent);
+        let holds = library_holds(lent.unmet) == (lent.unmet == 0) as u32;
+        let fine = got == reply && Tally::of(lent) == expected && said && holds;
+        let tell = || difference((reply, &expected), (got, lent), &before);
+        self.check(fine, || format!("toggle {} sheet {:?}: {}", variable, input.bytes, tell()));
+        match &input.sheet {
+            Ok(sheet) if own => self.full_reading(sheet, lent),
+            _ => {}
+        }
+    }
+
+    fn full_reading(&mut self, sheet: &Sheet, lent: &Lent) {
+        let marks = lent.marks[0];
+        let all = sheet.terms.iter().all(|t| is_true(t, marks));
+        self.holding += all as u64;
+        let fine = Tally::of(lent) == Tally::recount(sheet, marks) && library_holds(lent.unmet) == all as u32;
+        self.check(fine, || format!("marks {} unmet {} are not those of {:?}", marks, lent.unmet, sheet));
+    }
+
+    // A tally begun on the sheet and toggled there, a quarter of the times twice running.
+    fn own_sheet(&mut self, r: &mut Random, input: &Input, steps: u64) -> Lent {
+        let mut lent = random_lent(r);
+        self.begin(input, &mut lent);
+        for _ in 0..steps {
+            let before = lent.clone();
+            let variable = random_variable(r, input, lent.marks[0]);
+            self.toggle(input, variable, &mut lent, true);
+            if r.below(4) == 0 {
+                self.toggle(input, variable, &mut lent, true);
+                self.twice += 1;
+                self.check(lent == before, || format!("{} toggled twice, sheet {:?}: not as before", variable, input.bytes));
+            }
+        }
+        lent
+    }
+
+    // The tally handed from sheet to sheet, seldom to the damaged one, and after half of the toggles any numbers in it.
+    fn other_sheets(&mut self, r: &mut Random, inputs: &[Input; 4], lent: &mut Lent, steps: u64) {
+        for step in 0..steps {
+            if step * 2 >= steps && r.below(2) == 0 {
+                *lent = random_lent(r);
+            }
+            let input = &inputs[r.below(10) as usize / 3];
+            let variable = random_variable(r, input, lent.marks[0]);
+            self.toggle(input, variable, lent, false);
+            if r.below(20) == 0 {
+                self.begin(&inputs[r.below(4) as usize], lent);
+            }
+        }
+    }
+
+    // Each toggle reads the whole sheet: the longer the sheet, the fewer. Few are enough where all are refused.
+    fn tallies(&mut self, r: &mut Random, bytes: &[u8]) {
+        let inputs = random_family(r, bytes);
+        let longest = inputs.iter().map(|input| input.bytes.len()).max().unwrap_or(0);
+        let steps = 24 + 16_384 / (64 + longest as u64);
+        let some = inputs[0].sheet.as_ref().is_ok_and(|sheet| sheet.n > 0);
+        let mut lent = self.own_sheet(r, &inputs[0], if some { steps } else { 4 });
+        self.other_sheets(r, &inputs, &mut lent, steps);
     }
 
     fn print(&self, inputs: u64) {
-        let Totals { kinds, numbers, pairs, terms, sayings, .. } = self;
+        let Totals { kinds, numbers, pairs, terms, sayings, begun, toggles, .. } = self;
         println!("{} inputs: refused {} clear {} none {} spent {}", inputs, kinds[0], kinds[1], kinds[2], kinds[3]);
         println!("refusals 1 to 8: {:?}", &numbers[1..9]);
         println!("pairs: refused {} alike {} different {}", pairs[0], pairs[1], pairs[2]);
         println!("terms: refused {} past the last {} false {} true {}", terms[0], terms[1], terms[2], terms[3]);
         println!("nothing flipped {} nothing flipped met {} clear sheets {}", sayings[1], sayings[2], self.cleared);
+        println!("tallies: refused {} begun {} toggled twice {} all true {}", begun[0], begun[1], self.twice, self.holding);
+        let [refused, strange, other, own] = toggles;
+        println!("toggles: refused {} no such variable {} own sheet {} other sheet or numbers {}", refused, strange, own, other);
         println!("differential: {} passed, {} failed", inputs.saturating_sub(self.failed), self.failed);
     }
 }
@@ -659,6 +1092,7 @@ fn main() {
     let inputs: u64 = std::env::args().nth(1).map_or(200_000, |a| a.parse().expect("a number of inputs"));
     let mut r = Random(0x9e37_79b9_7f4a_7c15);
     let mut questions = Random(0x2545_f491_4f6c_dd1d);
+    let mut touches = Random(0xd1b5_4a32_d192_ed03);
     let mut codes = Codes(HashMap::new());
     let mut totals = Totals::default();
     totals.fixed(&mut codes);
@@ -672,6 +1106,9 @@ fn main() {
         // each term reads the whole sheet again: the longer the sheet, the rarer
         if got.verdict == 1 && questions.below(1 + bytes.len() as u64 / 256) == 0 {
             totals.cleared(&bytes, got.marks);
+        }
+        if touches.below(20) == 0 {
+            totals.tallies(&mut touches, &bytes);
         }
     }
     totals.print(inputs);

@@ -43,17 +43,29 @@ prints "clause 1 met 0 open 2
 clause 2 met 2 open 0
 clause 3 met 1 open 0" counts 0 0 target/host/sheet
 prints "refused 2 place 0" counts 0 0 /dev/null
+prints "begin marks 0 false 1 not all hold
+toggle 1 marks 1 false 0 all hold
+toggle 3 marks 5 false 2 not all hold
+toggle 4 refused 10 place 0
+toggle 3 marks 1 false 0 all hold
+clause 1 met 1
+clause 2 met 1
+clause 3 met 1" tally target/host/sheet 1 3 4 3
+prints "begin refused 2 place 0" tally /dev/null 1
 for bad in 4294967296 99999999999999999999999999 -1 +1 '' ' 1' 1x 0x1 1.0; do
     declines "$bad" 1 9 target/host/sheet
     declines 3 "$bad" 9 target/host/sheet
     declines 3 1 "$bad" target/host/sheet
     declines counts "$bad" 1 target/host/sheet
     declines counts 1 "$bad" target/host/sheet
+    declines tally target/host/sheet 1 "$bad"
 done
 declines 3 1 9
 declines counts 1 target/host/sheet
 declines 3 1 9 target/host/no-such-sheet
 declines 3 1 9 target/host
-echo "host: printed the sample's line and how its clauses stand, and declined what is no number"
+declines tally
+declines tally target/host/no-such-sheet 1
+echo "host: printed the sample's line, how its clauses stand and a tally, and declined what is no number"
 rustc --edition 2021 -O host/differential.rs -L target/staticlib -l static=engine -o target/host/differential
 target/host/differential "${1:-200000}"

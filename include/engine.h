@@ -3,12 +3,12 @@
    Every function answers for every input, allocates nothing, keeps no state, and touches nothing but its stack and the
    buffers that it is lent. The host sees to this, which nothing checks:
 
-   - A sheet's buffer has at least `length` bytes, a table at least `cells` cells, and an array its number of words. They must be
+   - A sheet's buffer has at least `length` bytes, a table at least `cells` cells, and an array its number of elements. They must be
      valid during the call, and need live no longer: the library keeps no pointer. Meanwhile nobody writes them, and nobody reads
-     the table. A pointer may be null where its length is 0. The two sheets of alike, and the two arrays of clause_counts, may
-     share a buffer.
-   - There is enough stack: run takes about 115 KB at its deepest, alike 74 KB, clause_counts 37 KB, covering_code 32 KB
-     (docs/BENCH.md).
+     the table or a tally. A pointer may be null where its length is 0. The two sheets of alike, and the two arrays of
+     clause_counts, may share a buffer; the parts of a tally and its sheet may not.
+   - There is enough stack: run takes about 115 KB at its deepest, alike 74 KB, clause_counts and the operations on a tally 37 KB,
+     covering_code 32 KB (docs/BENCH.md).
 
    In every reply `number` and `place` are the refusal's number and place (README.md has the table); both are 0 where nothing
    is refused, and a refusal is told by number not 0. What does not belong to an answer is 0. */
@@ -53,6 +53,27 @@ struct counts_reply {
    the last clause both numbers are 0. */
 struct counts_reply clause_counts(const uint8_t *sheet, size_t length, uint32_t clause, const uint32_t marks[1],
                                   const uint32_t flipped[1]);
+
+/* A tally is the host's: an assignment (marks), for each of up to 1,024 clauses the number of its met literals, and the number of
+   clauses that are false (unmet). The host lends it with the sheet, and the library keeps nothing of it. */
+struct tally_reply {
+    uint32_t number;
+    uint32_t place;
+};
+
+/* Begins the tally of the sheet: marks 0, the number of met literals of each clause, 0 past the last clause, and the number of false
+   clauses. */
+struct tally_reply tally_begin(const uint8_t *sheet, size_t length, uint32_t marks[1], uint8_t met[1024], uint32_t *unmet);
+
+/* Toggles one variable in marks. The number of each clause that names it goes one up or down and is then brought within 0 to the
+   clause's length; no other number moves. In the order of the clauses unmet loses one where such a number leaves 0 and gains one where
+   it falls to 0, each time brought within 0 to 1,024. After the sheet's own refusals, variable 0 or above n is refusal 10, place 0.
+   On the sheet that began the tally its numbers stay the true ones. A refusal, of tally_begin too, leaves everything as it came. */
+struct tally_reply tally_toggle(const uint8_t *sheet, size_t length, uint32_t variable, uint32_t marks[1], uint8_t met[1024],
+                                uint32_t *unmet);
+
+/* Whether all clauses are true, from the tally alone: 1 where unmet is 0, else 0. */
+uint32_t tally_holds(uint32_t unmet);
 
 /* What an answer of alike is; a refusal is ENGINE_REFUSED. */
 enum { ENGINE_ALIKE = 1, ENGINE_DIFFERENT = 2 };

@@ -52,13 +52,16 @@ pub reply-bad-plan : (p : Plan) (A : ℕ) (s : List ℕ) → coded? (p .size) (p
 unfolding replyTo decision refusal numbersOf
 reply-bad-plan p A s e = rw e
 
--- a none is of an accepted plan
-pub none-plan : (p : Plan) (A : ℕ) (s : List ℕ) → replyTo p A s .verdict ≡ NONE → coded? (p .size) (p .radius) ≡ true
-none-plan p A s e = go (coded? (p .size) (p .radius)) refl
+-- what is not refused is of an accepted plan
+pub reply-plan : (p : Plan) (A : ℕ) (s : List ℕ) → (replyTo p A s .verdict ≡ REFUSED → ⊥) → coded? (p .size) (p .radius) ≡ true
+reply-plan p A s h = go (coded? (p .size) (p .radius)) refl
   where
     go : (b : Bool) → coded? (p .size) (p .radius) ≡ b → b ≡ true
     go true q = refl
-    go false q = absurd (omega (arith, reply-bad-plan p A s q))
+    go false q = absurd (h (reply-bad-plan p A s q))
+
+pub none-plan : (p : Plan) (A : ℕ) (s : List ℕ) → replyTo p A s .verdict ≡ NONE → coded? (p .size) (p .radius) ≡ true
+none-plan p A s e = reply-plan p A s (λ r. omega arith)
 
 -- ---- the numbers of a search's answer tell its kind
 

@@ -5,6 +5,7 @@ pub mod Right
 pub mod Demands
 pub mod AlikeAnswers
 pub mod CountsAnswers
+pub mod TallyAnswers
 pub mod Examples
 pub mod Machine
 pub mod MachineLaws

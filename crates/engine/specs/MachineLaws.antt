@@ -1,10 +1,11 @@
--- The laws that `decide` and `clause_counts` cite, one for each way through them.
-use mathlib.Core.Path.{_≡_}
+-- The laws that `decide`, `clause_counts` and the operations on a tally cite, one for each way through them.
+use mathlib.Core.Path.{_≡_, refl, ap, _∙_}
 use mathlib.Core.Bool.{true, false}
 use mathlib.Core.List.{List, []}
 use Prim.Native.Nat.{ℕ, _≤_}
 use lib.ListN.{getD}
 use Rattle.words.specs.declared.Refusal.{Refusal}
+use Rattle.formula.specs.Sheet.{Result, accepted, refused}
 use Rattle.formula.specs.Machine.{SheetRead, held}
 use Rattle.formula.specs.ReadingLaws.{sheet-accepted, sheet-refused}
 use Rattle.formula.specs.declared.Reading.{Reading}
@@ -16,8 +17,13 @@ use Rattle.tree.specs.Budget.{Answer, answer}
 use Rattle.search.specs.Ball.{State, Reading as ClauseReading, reading}
 use Rattle.search.specs.Run.{plan, blocks, searchOf, run}
 use Rattle.search.specs.Machine.{searchIn}
+use Rattle.tally.specs.Tally.{Tally}
+use Rattle.tally.specs.Machine.{outcomeOf, Comes}
+use Rattle.tally.specs.declared.Outcome.{Outcome}
+use Rattle.engine.specs.declared.exports.TallyReply.{TallyReply}
 use Rattle.engine.specs.Answers.{outcome, refusal, answered, decided, decision, BAD-PLAN}
-use Rattle.engine.specs.Replies.{clauseCountsOf, clauseCountsTo}
+use Rattle.engine.specs.Replies.{clauseCountsOf, clauseCountsTo, tallyReplyOf, TallyMade}
+use Rattle.engine.specs.Machine.{outcomeReply}
 
 -- the numbers of an accepted plan
 pub plan-bounds : (size radius : ℕ) → coded? size radius ≡ true → (1 ≤ size) × (size ≤ 12) × (radius ≤ size)
@@ -57,3 +63,15 @@ module _ (s : List ℕ) (i : ℕ) (at : State) (r : Reading) (cells : List ℕ) 
       record { met = x .met; «open» = x .«open»; number = 0; place = 0 } ≡ clauseCountsTo s i at
   unfolding clauseCountsTo clauseCountsOf
   counts-read b n k e x g = rw (sheet-accepted s r cells h b n k e .0, g)
+
+-- ---- a tally
+
+-- what an operation comes to, in numbers
+pub tally-made : (f : Tally → Result Tally) (t : Tally) (o : Outcome) (u : Tally) (r : TallyReply) → Comes f t o u →
+    r ≡ outcomeReply o → TallyMade f t r u
+unfolding outcomeReply outcomeOf tallyReplyOf
+tally-made f t o u r h e = record { reply = e ∙ ap outcomeReply (h .answer) ∙ go (f t); tally = h .tally }
+  where
+    go : (x : Result Tally) → outcomeReply (outcomeOf x) ≡ tallyReplyOf x
+    go (accepted v) = refl
+    go (refused number place) = refl

@@ -1,5 +1,6 @@
--- The numbers of an answer on codes, on two sheets and on a clause, as a host in C has them. In every reply `number` and `place` are
+-- The numbers of an answer on codes, on two sheets, on a clause and on a tally, as a host in C has them. In every reply `number` and `place` are
 -- the refusal's, and what does not belong to an answer is 0.
+use mathlib.Core.Path.{_≡_}
 use mathlib.Core.List.{List, []}
 use Prim.Native.Nat.{ℕ}
 use lib.ListN.{getD}
@@ -11,9 +12,11 @@ use Rattle.alike.specs.declared.Comparison.{Comparison}
 use Rattle.alike.specs.declared.Comparison.the-variants.{Alike, Different, Refused as Declined}
 use Rattle.alike.specs.Alike.{comparison}
 use Rattle.search.specs.Ball.{State, reading}
+use Rattle.tally.specs.Tally.{Tally, left}
 use Rattle.engine.specs.declared.exports.NumberReply.{NumberReply}
 use Rattle.engine.specs.declared.exports.AlikeReply.{AlikeReply}
 use Rattle.engine.specs.declared.exports.CountsReply.{CountsReply}
+use Rattle.engine.specs.declared.exports.TallyReply.{TallyReply}
 use Rattle.engine.specs.Answers.{REFUSED}
 
 -- ---- codes, volumes and floors
@@ -52,3 +55,15 @@ clauseCountsOf i s (refused number place) = record { met = 0; «open» = 0; numb
 -- What `clause_counts` gives.
 unfoldable pub clauseCountsTo : List ℕ → ℕ → State → CountsReply
 clauseCountsTo sheet i s = clauseCountsOf i s (parse sheet)
+
+-- ---- a tally
+
+-- Nothing refused is 0 and 0.
+unfoldable pub tallyReplyOf : Result Tally → TallyReply
+tallyReplyOf (accepted t) = record { number = 0; place = 0 }
+tallyReplyOf (refused number place) = record { number = number; place = place }
+
+-- What `tally_begin` or `tally_toggle`, as the operation f, makes of the tally t that was lent: the reply r, and the tally u.
+pub record TallyMade (f : Tally → Result Tally) (t : Tally) (r : TallyReply) (u : Tally) : Type 0 where
+  pub reply : r ≡ tallyReplyOf (f t)
+  pub tally : u ≡ left t (f t)

@@ -1,12 +1,16 @@
-// The operations on codes, on two sheets and on a clause for a host in C (include/engine.h): the
-// answers of the crates code, alike and search, in numbers.
+// The operations on codes, on two sheets, on a clause and on a tally for a host in C
+// (include/engine.h): the answers of the crates code, alike, search and tally, in numbers.
 use alike::Comparison;
 use code::Answer;
 use formula::Reading;
+use tally::Outcome;
 use words::Assignment;
 ghost use mathlib.Core.Path.{_≡_};
+ghost use mathlib.Core.Bool.{cond};
 ghost use Rattle.code.specs.Operations.{codeAnswer, codeTable, volumeAnswer, floorAnswer};
-ghost use Rattle.engine.specs.Replies.{resultOf, comparisonOf, alikeTo, clauseCountsTo};
+ghost use Rattle.tally.specs.Tally.{tallyBegin, tallyToggle, tallyHolds, tallyIn};
+ghost use Rattle.engine.specs.Replies.{resultOf, comparisonOf, alikeTo, clauseCountsTo, TallyMade};
+ghost use Rattle.engine.specs.Machine.{outcomeReply};
 ghost use Rattle.words.specs.Bits.{fromWords};
 
 // The answer's number in a reply (specs/Replies.antt); a refusal's is that of `run`.
@@ -36,6 +40,13 @@ pub struct AlikeReply {
 pub struct CountsReply {
     pub met: u32,
     pub open: u32,
+    pub number: u32,
+    pub place: u32,
+}
+
+// Nothing refused, or a refusal.
+#[repr(C)]
+pub struct TallyReply {
     pub number: u32,
     pub place: u32,
 }
@@ -141,4 +152,55 @@ pub extern "C" fn clause_counts(
             place: refusal.place,
         },
     }
+}
+
+fn tally_reply(outcome: Outcome) -> TallyReply
+    ensures { λ r. ⌜ r ≡ outcomeReply outcome ⌝ }
+{
+    match outcome {
+        Outcome::Done => TallyReply {
+            number: 0,
+            place: 0,
+        },
+        Outcome::Refused(refusal) => TallyReply {
+            number: refusal.number,
+            place: refusal.place,
+        },
+    }
+}
+
+#[no_mangle]
+pub extern "C" fn tally_begin(
+    sheet: &[u8],
+    marks: &mut [u32; words::WORDS],
+    met: &mut [u8; tally::NUMBERS],
+    unmet: &mut u32,
+) -> TallyReply
+    ensures { λ r. ⌜ TallyMade (λ _. tallyBegin (now (sheet .entry)))
+        (tallyIn (now (marks .entry)) (now (met .entry)) (now (unmet .entry)))
+        r (tallyIn (now (marks .exit)) (now (met .exit)) (now (unmet .exit))) ⌝ }
+{
+    tally_reply(tally::begin(sheet, marks, met, unmet))
+}
+
+#[no_mangle]
+pub extern "C" fn tally_toggle(
+    sheet: &[u8],
+    variable: u32,
+    marks: &mut [u32; words::WORDS],
+    met: &mut [u8; tally::NUMBERS],
+    unmet: &mut u32,
+) -> TallyReply
+    ensures { λ r. ⌜ TallyMade (tallyToggle (now (sheet .entry)) variable)
+        (tallyIn (now (marks .entry)) (now (met .entry)) (now (unmet .entry)))
+        r (tallyIn (now (marks .exit)) (now (met .exit)) (now (unmet .exit))) ⌝ }
+{
+    tally_reply(tally::toggle(sheet, variable, marks, met, unmet))
+}
+
+#[no_mangle]
+pub extern "C" fn tally_holds(unmet: u32) -> u32
+    ensures { λ r. ⌜ r ≡ cond (tallyHolds unmet) 1 0 ⌝ }
+{
+    if tally::holds(unmet) { 1 } else { 0 }
 }

@@ -1,14 +1,15 @@
 -- The laws of counts: how a toggle moves the number of met literals of a clause.
 use mathlib.Core.Path.{_≡_, refl, sym, ap, ap₂, _∙_}
-use mathlib.Core.Bool.{Bool, true, false, cond, not, _&&_, Bool·beq, and-false, true≢false}
-use mathlib.Core.List.{[], _∷_}
+use mathlib.Core.Logic.{_⊎_, inl, inr}
+use mathlib.Core.Bool.{Bool, true, false, cond, not, _&&_, _||_, Bool·beq, and-false, or-false, true≢false, false≢true}
+use mathlib.Core.List.{[], _∷_, List·Memᴰ·not-nil, List·Memᴰ·cases-cons}
 use Prim.Native.Nat.{ℕ, _+_, _-_, _*_, _/_, _%_, _≤_, _<_, zero-le}
 use native.Mathlib.Omega.{arith}
 use lib.Dec.{eqb}
 use lib.Bits.{differ, xor-step, xor-zero-r}
 use borrow.Author.Tests.{ne-eqb, eqb-true, eqb-false, not-true}
 use Rattle.words.specs.Lists.{In, some, keep, count}
-use Rattle.words.specs.ListLaws.{and-left, and-right}
+use Rattle.words.specs.ListLaws.{and-left, and-right, refute, some-in, in-some}
 use Rattle.words.specs.Bits.{bit, toggle}
 use Rattle.words.specs.BitLaws.{digit, by-parity, same-test, bit-toggle-same, bit-toggle-other}
 use Rattle.words.specs.CountLaws.{count-cons, count-le, count-moves, count-adds, count-same, count-none, count-zero, some-digit}
@@ -42,20 +43,43 @@ is-split w l = go (l .positive)
         (λ e. ne-eqb (2 * x + 1) w (λ q. omega arith))
         (λ e. same-test (2 * x + 1) w x (w / 2) (λ q. omega arith) (λ q. omega arith))
 
--- a variable stands in a clause at most once
+-- a variable stands in a clause at most once: the literals behind one that names it do not
+once-rest : (v : ℕ) (l : Literal) (c : Clause) → once (l ∷ c) ≡ true → names? v l ≡ true → some (names? v) c ≡ false
+unfolding once names
+once-rest v l c o e =
+    ap (λ (x : ℕ). some (names? x) c) (sym (eqb-true (l .variable) v e))
+    ∙ not-true (names (l .variable) c) (and-left (not (names (l .variable) c)) (once c) o)
+
 once-le : (v : ℕ) (c : Clause) → once c ≡ true → count (names? v) c ≤ 1
-unfolding once names count keep
-once-le v [] e = zero-le
-once-le v (l ∷ c) e =
-    rw (count-cons (names? v) l c) (go (once-le v c (and-right (not (names (l .variable) c)) (once c) e)) (names? v l) refl)
+unfolding once count keep
+once-le v [] o = zero-le
+once-le v (l ∷ c) o =
+    rw (count-cons (names? v) l c) (go (once-le v c (and-right (not (names (l .variable) c)) (once c) o)) (names? v l) refl)
   where
     go : count (names? v) c ≤ 1 → (b : Bool) → names? v l ≡ b → digit b + count (names? v) c ≤ 1
-    go below true q =
-        let none : some (names? v) c ≡ false =
-        ap (λ (x : ℕ). some (names? x) c) (sym (eqb-true (l .variable) v q))
-        ∙ not-true (names (l .variable) c) (and-left (not (names (l .variable) c)) (once c) e) in
-        omega (arith, count-zero (names? v) c none)
-    go below false q = omega arith
+    go below true e = omega (arith, count-zero (names? v) c (once-rest v l c o e))
+    go below false e = omega arith
+
+-- so that a test of the literals that name it is a test of the one
+pub named-once : (v : ℕ) (p : Literal → Bool) (c : Clause) → once c ≡ true → (l : Literal) → In l c → names? v l ≡ true →
+    some (λ x. names? v x && p x) c ≡ p l
+unfolding once some
+named-once v p [] o l i e = absurd (List·Memᴰ·not-nil i)
+named-once v p (y ∷ c) o l i e =
+    go (λ j. named-once v p c (and-right (not (names (y .variable) c)) (once c) o) l j e) (names? v y) refl (List·Memᴰ·cases-cons i)
+  where
+    alone : names? v y ≡ true → some (λ x. names? v x && p x) c ≡ false
+    alone q =
+        refute _ (λ s.
+        let (x, j, t) = some-in _ c s in
+        false≢true (sym (once-rest v y c o q) ∙ in-some (names? v) c x j (and-left (names? v x) (p x) t)))
+
+    go : (In l c → some (λ x. names? v x && p x) c ≡ p l) → (b : Bool) → names? v y ≡ b → (l ≡ y) ⊎ In l c →
+        ((b && p y) || some (λ x. names? v x && p x) c) ≡ p l
+    go below true q (inl h) = rw (alone q, h) (or-false (p y))
+    go below true q (inr j) = absurd (false≢true (sym (once-rest v y c o q) ∙ in-some (names? v) c l j e))
+    go below false q (inl h) = absurd (false≢true (sym q ∙ sym (ap (names? v) h) ∙ e))
+    go below false q (inr j) = below j
 
 -- ---- the toggle of one variable
 
@@ -79,16 +103,17 @@ opposite-split w l =
     go false = by-parity (λ d. Bool·beq false (eqb (1 - d) 0) ≡ not (Bool·beq false (eqb d 0))) w (λ e. refl) (λ e. refl)
 
 -- a clause holds a literal or its opposite as often as it names the variable
-pub both-count : (w : ℕ) (c : Clause) → once c ≡ true → count (is w) c + count (is (opposite w)) c ≤ 1
-both-count w c o =
-    let sum : count (names? (w / 2)) c ≡ count (is w) c + count (is (opposite w)) c =
+named-count : (w : ℕ) (c : Clause) → count (names? (w / 2)) c ≡ count (is w) c + count (is (opposite w)) c
+named-count w c =
     count-adds (is w) (names? (w / 2)) (is (opposite w)) c
-    (λ l i. rw (opposite-split w l, is-split w l) (go (Bool·beq (l .positive) (eqb (w % 2) 0)) (names? (w / 2) l))) in
-    omega (arith, once-le (w / 2) c o)
+    (λ l i. rw (opposite-split w l, is-split w l) (go (Bool·beq (l .positive) (eqb (w % 2) 0)) (names? (w / 2) l)))
   where
     go : (s b : Bool) → digit b ≡ digit (s && b) + digit (not s && b)
     go true b = omega arith
     go false b = omega arith
+
+pub both-count : (w : ℕ) (c : Clause) → once c ≡ true → count (is w) c + count (is (opposite w)) c ≤ 1
+both-count w c o = omega (arith, named-count w c, once-le (w / 2) c o)
 
 -- A literal beside the one with the word w. Of the same variable:
 module _ (w : ℕ) (l : Literal) where
@@ -163,6 +188,19 @@ literal-toggles w m l h k u = go (names? (w / 2) l) refl
 pub holds-digit : {n : ℕ} (w : ℕ) (c : Clause) → WellFormedClause n c → digit (holds w c) ≡ count (is w) c
 unfolding holds
 holds-digit w c f = some-digit (is w) c (omega (arith, both-count w c (f .once)))
+
+-- A clause names the variable of a word exactly if it holds the literal or its opposite.
+pub names-digit : {n : ℕ} (w : ℕ) (c : Clause) → WellFormedClause n c →
+    digit (names (w / 2) c) ≡ digit (holds w c) + digit (holds (opposite w) c)
+unfolding names
+names-digit w c f =
+    omega (
+      arith,
+      some-digit (names? (w / 2)) c (once-le (w / 2) c (f .once)),
+      named-count w c,
+      holds-digit w c f,
+      holds-digit (opposite w) c f,
+    )
 
 -- A number that counts the literals which pass a test moves with two words, if each literal does.
 pub count-steps : {n : ℕ} (up down : ℕ) (c : Clause) → WellFormedClause n c → count (is up) c + count (is down) c ≤ 1 →

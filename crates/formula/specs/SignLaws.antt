@@ -1,13 +1,13 @@
 -- Laws of the literal of a bit with a sign, and of its word.
 use mathlib.Core.Path.{_≡_, refl, ap, _∙_}
 use mathlib.Core.Bool.{Bool, true, false, cond, not, _&&_, Bool·beq}
-use Prim.Native.Nat.{ℕ, _+_, _-_, _*_, _<_}
+use Prim.Native.Nat.{ℕ, _+_, _-_, _*_, _/_, _<_}
 use native.Mathlib.Omega.{arith}
 use Rattle.words.specs.Bits.{bit, width}
 use Rattle.formula.specs.Formula.{Literal, bitOf, met, literalWord, literalOf}
 use Rattle.formula.specs.Counts.{signWord}
 use Rattle.formula.specs.Machine.{IsLiteral}
-use Rattle.formula.specs.ParseEncode.{literal-word}
+use Rattle.formula.specs.ParseEncode.{half-literal, literal-word}
 use Rattle.formula.specs.CountLaws.{is, is-split, names?}
 
 module _ (b : Bool) (v : ℕ) where
@@ -25,6 +25,9 @@ module _ (b : Bool) (v : ℕ) where
       go : (x : Bool) → IsLiteral (2 * (v + 1) + cond x 0 1)
       go true = (omega arith, omega arith)
       go false = (omega arith, omega arith)
+
+  pub sign-half : signWord b v / 2 ≡ v + 1
+  sign-half = half-literal it
 
   pub sign-bit : bitOf (literalOf (signWord b v)) ≡ v
   unfolding bitOf

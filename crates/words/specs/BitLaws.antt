@@ -1,6 +1,6 @@
 -- The laws of bits: toggling changes that bit and no other; distance counts the bits that differ; distances of blocks add up.
 use mathlib.Core.Path.{_≡_, refl, sym, ap, ap₂, _∙_}
-use mathlib.Core.Bool.{Bool, true, false, cond, not, xor, _&&_, _||_, true≢false}
+use mathlib.Core.Bool.{Bool, true, false, cond, not, xor, _&&_, _||_, true≢false, Bool·not-not}
 use Prim.Native.Nat.{ℕ, zero, suc, _+_, _*_, _/_, _%_, _^_, _<_, suc-le-suc, min, max}
 use native.Mathlib.Nat.{add-suc, suc-inj, div-lt-iff-lt-mul, pow-suc, div-one, zero-div, mod-lt, mul-mod-left, mul-div-cancel, mul-add-mod-self-right, not-suc-le-zero, le-of-suc-le-suc}
 use native.Mathlib.Numerals.{one-add}
@@ -147,6 +147,18 @@ bits-ext (suc n) a b p q h =
     let lowest : eqb (a % 2) 1 ≡ eqb (b % 2) 1 = sym (bit-low a) ∙ h 0 (omega arith) ∙ bit-low b in
     let low : a % 2 ≡ b % 2 = digit-is (a % 2) (mod-lt a (lit< tt)) ∙ ap digit lowest ∙ sym (digit-is (b % 2) (mod-lt b (lit< tt))) in
     omega arith
+
+-- Toggling twice changes nothing.
+pub toggle-twice : (n m v : ℕ) → m < 2 ^ n → v < n → toggle (toggle m v) v ≡ m
+toggle-twice n m v h l = bits-ext n _ m (toggle-lt n (toggle m v) v (toggle-lt n m v h l) l) h (λ w p. go w (eqb v w) refl)
+  where
+    go : (w : ℕ) (t : Bool) → eqb v w ≡ t → bit (toggle (toggle m v) v) w ≡ bit m w
+    go w true e =
+        let same : v ≡ w = eqb-true v w e in
+        rw (← same, bit-toggle-same (toggle m v) v, bit-toggle-same m v) (Bool·not-not (bit m v))
+    go w false e =
+        let other = eqb-false v w e in
+        bit-toggle-other (toggle m v) v w other ∙ bit-toggle-other m v w other
 
 -- ---- counting
 

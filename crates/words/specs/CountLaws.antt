@@ -7,7 +7,7 @@ use native.Mathlib.Omega.{arith}
 use lib.Dec.{eqb, eqb·suc-zero}
 use lib.ListN.{length}
 use borrow.Author.Tests.{eqb-true, not-false}
-use Rattle.words.specs.Lists.{In, some, keep, count}
+use Rattle.words.specs.Lists.{In, some, every, keep, count}
 use Rattle.words.specs.ListLaws.{length-keep}
 use Rattle.words.specs.BitLaws.{digit}
 
@@ -59,6 +59,22 @@ module _ {A : Type 0} where
           (b || some p xs) ≡ not (eqb (length (cond b (x ∷ keep p xs) (keep p xs))) 0)
       go below true = rw (eqb·suc-zero (length (keep p xs)))
       go below false = below
+
+  pub every-count : (p : A → Bool) (xs : List A) → every p xs ≡ eqb (count (λ x. not (p x)) xs) 0
+  unfolding every count keep
+  every-count p [] = refl
+  every-count p (x ∷ xs) = go (every-count p xs) (p x)
+    where
+      others : List A
+      others = keep (λ y. not (p y)) xs
+
+      go : every p xs ≡ eqb (length others) 0 → (b : Bool) → (b && every p xs) ≡ eqb (length (cond (not b) (x ∷ others) others)) 0
+      go below true = below
+      go below false = sym (eqb·suc-zero (length others))
+
+  pub some-same : (p q : A → Bool) (xs : List A) → ((x : A) → In x xs → p x ≡ q x) → some p xs ≡ some q xs
+  some-same p q xs h =
+      some-count p xs ∙ ap (λ (t : ℕ). not (eqb t 0)) (count-same p q xs h) ∙ sym (some-count q xs)
 
   -- where at most one element passes, whether one does is how many do
   pub some-digit : (p : A → Bool) (xs : List A) → count p xs ≤ 1 → digit (some p xs) ≡ count p xs

@@ -5,3 +5,4 @@ pub mod Bits
 pub mod BitLaws
 pub mod CountLaws
 pub mod Machine
+pub mod WordLaws

@@ -1,7 +1,20 @@
--- What the machine's assignment reads as.
-use Prim.Native.Nat.{ℕ}
+-- What the machine's assignment reads as, and the words in which a host in C lends one.
+use mathlib.Core.Path.{_≡_}
+use mathlib.Core.List.{List}
+use Prim.Native.Nat.{ℕ, _/_, _^_, _<_}
+use lib.ListN.{length, getD}
 use Rattle.words.specs.declared.Assignment.{Assignment}
+use Rattle.words.specs.Bits.{width}
 
 -- the number whose bits an assignment holds: bit v - 1 is the value of variable v
 unfoldable pub bitsOf : Assignment → ℕ
 bitsOf a = a .word
+
+-- how many words of 32 bits a host lends
+abbrev pub wordCount : ℕ
+wordCount = width / 32
+
+-- The words that are lent: so many, and each of 32 bits.
+pub record Lent (ws : List ℕ) : Type 0 where
+  pub size : length ws ≡ wordCount
+  pub each : (i : ℕ) → getD ws i 0 < 2 ^ 32

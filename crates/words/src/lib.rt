@@ -2,8 +2,9 @@
 // numbers.
 ghost use mathlib.Core.Path.{_≡_};
 ghost use Prim.Native.Nat.{_+_, _*_, _^_, _<_, min};
+ghost use lib.ListN.{length};
 ghost use Rattle.words.specs.Bits.{bit, toggle, width, fromWords};
-ghost use Rattle.words.specs.Machine.{bitsOf};
+ghost use Rattle.words.specs.Machine.{bitsOf, wordCount};
 
 // How many variables an assignment has room for (specs/Bits.antt).
 pub const WIDTH: u32 = 32;
@@ -34,6 +35,14 @@ impl Assignment {
         ensures { λ r. ⌜ bitsOf r ≡ fromWords (now (words .entry)) ⌝ }
     {
         Assignment { word: words[0] }
+    }
+
+    // Into the words that a host lent.
+    pub fn store(self, words: &mut [u32])
+        requires { ⌜ length (now words) ≡ wordCount ⌝ }
+        ensures { λ r. ⌜ fromWords (now (words .exit)) ≡ bitsOf self ⌝ }
+    {
+        words[0] = self.word;
     }
 
     pub fn test(self, v: u32) -> bool
