@@ -154,9 +154,30 @@ static int codes(void)
     return ok;
 }
 
+/* All 169 volumes. The limit is volatile, so that plain C cannot work them out beforehand. */
+static int volumes(void)
+{
+    static volatile uint32_t limit = 12;
+    uint64_t ours = 0, theirs = 0;
+    int rounds = 20000;
+    double at = seconds();
+    for (int i = 0; i < rounds; i++)
+        for (uint32_t t = 0; t <= limit; t++)
+            for (uint32_t s = 0; s <= limit; s++) ours += ball_volume(t, s).result * (1 + s);
+    double mid = seconds();
+    for (int i = 0; i < rounds; i++)
+        for (uint32_t t = 0; t <= limit; t++)
+            for (uint32_t s = 0; s <= limit; s++) theirs += plain_volume(t, s) * (1 + s);
+    double end = seconds();
+    printf("%-44s %8.1f ns  plain %8.1f ns  ratio %.2f%s\n", "volume of a ball, mean of all 169", (mid - at) / rounds / 169 * 1e9,
+           (end - mid) / rounds / 169 * 1e9, (mid - at) / (end - mid), ours == theirs ? "" : "  DIFFERENT ANSWERS");
+    return ours == theirs;
+}
+
 int main(void)
 {
     int ok = codes();
+    ok &= volumes();
     make(32, 160, 3);
     ok &= search("n 32, 160 clauses of 3, plan 11, 3", 11, 3, 4294967295u);
     make(32, 700, 5);

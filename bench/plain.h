@@ -98,6 +98,14 @@ static int plain_code(uint32_t t, uint32_t s, uint16_t *code)
     }
 }
 
+/* The volume of a ball: binomials, each from the one before. */
+static uint32_t plain_volume(uint32_t t, uint32_t s)
+{
+    uint32_t binomial = 1, sum = 1;
+    for (uint32_t i = 0; i < s && i < t; i++) sum += binomial = binomial * (t - i) / (i + 1);
+    return sum;
+}
+
 /* 1 clear, 2 none, 3 spent; the number of a refusal negated */
 static int plain_run(uint32_t b, uint32_t s, uint32_t budget, const uint8_t *bytes, size_t length, struct plain_search *search,
                      struct plain_sheet *sheet)

@@ -3,13 +3,12 @@ pub mod Covering
 pub mod Code
 pub mod Volume
 pub mod Operations
-pub mod Table
 pub mod Machine
 pub mod KeepLaws
 pub mod CodeLaws
 pub mod VolumeLaws
 pub mod FloorLaws
-pub mod TableLaws
+pub mod ChooseLaws
 pub mod OperationLaws
 pub mod MachineLaws
 pub mod GrowLaws

@@ -1,197 +1,24 @@
-// The volumes of the balls, as a table.
+// The volumes of the balls, worked out.
+use words::least;
 ghost use Rattle.code.specs.Operations.{blockLimit};
 ghost use mathlib.Core.Path.{_≡_};
-ghost use mathlib.Core.Bool.{true};
 ghost use Prim.Native.Nat.{_≤_};
 ghost use Rattle.code.specs.Volume.{volume};
-ghost use Rattle.code.specs.Table.{recurrent};
 
-// V(t, s) stands at place t * 13 + s.
-const VOLUMES: [u32; 169] = [
-    1,
-    1,
-    1,
-    1,
-    1,
-    1,
-    1,
-    1,
-    1,
-    1,
-    1,
-    1,
-    1,
-    1,
-    2,
-    2,
-    2,
-    2,
-    2,
-    2,
-    2,
-    2,
-    2,
-    2,
-    2,
-    2,
-    1,
-    3,
-    4,
-    4,
-    4,
-    4,
-    4,
-    4,
-    4,
-    4,
-    4,
-    4,
-    4,
-    1,
-    4,
-    7,
-    8,
-    8,
-    8,
-    8,
-    8,
-    8,
-    8,
-    8,
-    8,
-    8,
-    1,
-    5,
-    11,
-    15,
-    16,
-    16,
-    16,
-    16,
-    16,
-    16,
-    16,
-    16,
-    16,
-    1,
-    6,
-    16,
-    26,
-    31,
-    32,
-    32,
-    32,
-    32,
-    32,
-    32,
-    32,
-    32,
-    1,
-    7,
-    22,
-    42,
-    57,
-    63,
-    64,
-    64,
-    64,
-    64,
-    64,
-    64,
-    64,
-    1,
-    8,
-    29,
-    64,
-    99,
-    120,
-    127,
-    128,
-    128,
-    128,
-    128,
-    128,
-    128,
-    1,
-    9,
-    37,
-    93,
-    163,
-    219,
-    247,
-    255,
-    256,
-    256,
-    256,
-    256,
-    256,
-    1,
-    10,
-    46,
-    130,
-    256,
-    382,
-    466,
-    502,
-    511,
-    512,
-    512,
-    512,
-    512,
-    1,
-    11,
-    56,
-    176,
-    386,
-    638,
-    848,
-    968,
-    1013,
-    1023,
-    1024,
-    1024,
-    1024,
-    1,
-    12,
-    67,
-    232,
-    562,
-    1024,
-    1486,
-    1816,
-    1981,
-    2036,
-    2047,
-    2048,
-    2048,
-    1,
-    13,
-    79,
-    299,
-    794,
-    1586,
-    2510,
-    3302,
-    3797,
-    4017,
-    4083,
-    4095,
-    4096,
-];
-
-// The table: each entry follows from those of the row above.
-fn volumes() -> [u32; 169]
-    ensures { λ r. ⌜ recurrent r ≡ true ⌝ }
-{
-    VOLUMES
-}
-
-// V(t, s). Nothing else reads the table.
+// V(t, s): the sum of the binomials C(t, i) for i up to s, or up to t, past which they are 0. Each
+// comes from the one before; the product goes first, for only then is the division exact.
 pub fn volume_at(t: u32, s: u32) -> u32
     requires { ⌜ (t ≤ blockLimit) × (s ≤ blockLimit) ⌝ }
     ensures { λ r. ⌜ r ≡ volume t s ⌝ }
 {
-    let table = volumes();
-    let place = (t * 13 + s) as usize;
-    table[place]
+    let last = least(s, t);
+    let mut binomial = 1;
+    let mut sum = 1;
+    let mut i = 0;
+    while i < last {
+        binomial = binomial * (t - i) / (i + 1);
+        sum += binomial;
+        i += 1;
+    }
+    sum
 }
