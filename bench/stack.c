@@ -1,5 +1,6 @@
 /* Measures the stack that run, alike, clause_counts, tally_toggle and covering_code take: each runs on a painted stack, and the paint left is counted.
-   The sheet makes the search as deep as it can be, 32 flips: n 32, and in every block each variable within the radius. */
+   The sheet makes the search as deep as it can be, 32 flips: n 32, and in every block each variable within the radius. Each flip is of the
+   last literal of its clause, after up to seven whose variables are flipped already: each literal of a clause takes stack too. */
 #include <pthread.h>
 #include <stdio.h>
 #include <string.h>
@@ -49,8 +50,12 @@ static size_t used(void *(*work)(void *))
 int main(void)
 {
     put(3u << 30), put(3u << 30), put(2u << 30 | 32);
-    for (uint32_t v = 1; v <= 32; v++) put(1u << 30 | 1), put(2 * v);
-    put(1u << 30);
+    for (uint32_t v = 1; v <= 32; v++) {
+        uint32_t before = v < 8 ? v - 1 : 7;
+        put(1u << 30 | (before + 1));
+        for (uint32_t u = 1; u <= before; u++) put(2 * u + 1);
+        put(2 * v);
+    }
     size_t base = used(do_nothing);
     printf("run %zu bytes (blocks of 12: %zu), alike %zu bytes, clause_counts %zu bytes, tally_toggle %zu bytes, covering_code %zu bytes\n",
            used(do_run) - base, used(do_run_12) - base, used(do_alike) - base, used(do_counts) - base, used(do_toggle) - base,

@@ -122,6 +122,13 @@ pub record Trying (k : ℕ) (cells occ planes : List ℕ) (s : State) (clause j 
   pub enough : calls ≤ budget
   pub more : j ≤ lengthAt cells clause
 
+-- Before literal j in the loop over the literals of a clause: those still to come, with `made` calls counted, give what all of them
+-- give with `calls` counted.
+pub record Turn (k : ℕ) (cells occ planes : List ℕ) (s : State) (clause left calls budget made j : ℕ) : Type 0 where
+  pub trying : Trying k cells occ planes s clause j left made budget
+  pub same : settle budget made (literalsFrom k cells left s (drop j (clauseAt cells clause)))
+      ≡ settle budget calls (literalsFrom k cells left s (clauseAt cells clause))
+
 -- What one literal is tried with: it is not met.
 pub record Attempting (k : ℕ) (cells occ planes : List ℕ) (s : State) (literal left calls budget : ℕ) : Type 0 where
   pub ready : Ready k cells occ

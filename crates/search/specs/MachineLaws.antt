@@ -25,7 +25,7 @@ use Rattle.tree.specs.Machine.{answerIn}
 use Rattle.search.specs.Ball.{State, flip, isTried, tried, skip, rule}
 use Rattle.search.specs.RuleLaws.{tried-fresh, false-unmet}
 use Rattle.search.specs.CallLaws.{search-spent, search-clear, search-none, search-literals, try-tried}
-use Rattle.search.specs.Machine.{Tryable, Chosen, Settles, Trying, Attempting, LastAttempt, callFrom, attemptFrom, literalsFrom}
+use Rattle.search.specs.Machine.{Tryable, Chosen, Settles, Trying, Turn, Attempting, LastAttempt, callFrom, attemptFrom, literalsFrom}
 
 module _ (k : ℕ) (cells : List ℕ) (left : ℕ) (s : State) (A c : ℕ) where
   -- ---- one call
@@ -92,21 +92,23 @@ module _ {k : ℕ} {cells occ planes : List ℕ} {s : State} {clause j left call
   pub trying-row : Row cells clause
   trying-row = table-row (t .ready .table) clause (t .inside)
 
-  pub trying-end : j ≡ lengthAt cells clause → drop j (clauseAt cells clause) ≡ []
-  trying-end e = row-end trying-row j (omega arith)
-
-  module _ (h : j ≡ lengthAt cells clause → ⊥) where
-    pub trying-left : j < lengthAt cells clause
-    trying-left = omega (arith, t .more)
-
-    pub trying-cons :
-        drop j (clauseAt cells clause) ≡ literalOf (literalAt cells clause j) ∷ drop (j + 1) (clauseAt cells clause)
-    trying-cons = rw add-one (row-cons trying-row j trying-left)
-
+  -- there is a literal j
+  module _ (h : j < lengthAt cells clause) where
     pub trying-known : IsLiteral (literalAt cells clause j)
-    trying-known = clause-known width k cells (t .ready .table) clause (t .inside) j trying-left
+    trying-known = clause-known width k cells (t .ready .table) clause (t .inside) j h
 
-    pub trying-next : (made : ℕ) → made ≤ budget → Trying k cells occ planes s clause (j + 1) left made budget
+    pub trying-attempt : Attempting k cells occ planes s (literalAt cells clause j) left calls budget
+    trying-attempt =
+        record {
+          ready = t .ready;
+          shows = t .shows;
+          known = trying-known;
+          unmet = false-unmet s (clauseAt cells clause) (t .failing) _ (row-in trying-row j h);
+          flips = t .flips;
+          enough = t .enough;
+        }
+
+    trying-next : (made : ℕ) → made ≤ budget → Trying k cells occ planes s clause (j + 1) left made budget
     trying-next made e =
         record {
           ready = t .ready;
@@ -115,42 +117,51 @@ module _ {k : ℕ} {cells occ planes : List ℕ} {s : State} {clause j left call
           failing = t .failing;
           flips = t .flips;
           enough = e;
-          more = omega (arith, trying-left);
+          more = omega (arith, h);
         }
 
-    pub trying-attempt : Attempting k cells occ planes s (literalAt cells clause j) left calls budget
-    trying-attempt =
+-- ---- the loop over the literals
+
+pub turn-start : {k : ℕ} {cells occ planes : List ℕ} {s : State} {clause left calls budget : ℕ} →
+    Trying k cells occ planes s clause 0 left calls budget → Turn k cells occ planes s clause left calls budget calls 0
+turn-start t = record { trying = t; same = refl }
+
+module _ {k : ℕ} {cells occ planes : List ℕ} {s : State} {clause left calls budget made j : ℕ}
+    (turn : Turn k cells occ planes s clause left calls budget made j) where
+  abbrev whole : Answer
+  whole = settle budget calls (literalsFrom k cells left s (clauseAt cells clause))
+
+  -- no literal is left
+  pub turn-end : lengthAt cells clause ≤ j → answerIn (None made) ≡ whole
+  unfolding answerIn
+  turn-end h =
+      let t = turn .trying in
+      let end : drop j (clauseAt cells clause) ≡ [] = row-end (trying-row t) j h in
+      sym (in-end k cells left s budget made (t .enough)) ∙ (rw end at (turn .same))
+
+  -- after literal j: its answer, and after none the literals after it
+  module _ (h : j < lengthAt cells clause) (r : Found)
+      (gave : answerIn r ≡ settle budget made (attemptFrom k cells left s (literalOf (literalAt cells clause j)))) where
+    abbrev rest-of : ℕ → Answer
+    rest-of d = settle budget d (literalsFrom k cells left s (drop (j + 1) (clauseAt cells clause)))
+
+    onwards : onward (answerIn r) rest-of ≡ whole
+    onwards =
+        let cons : drop j (clauseAt cells clause) ≡ literalOf (literalAt cells clause j) ∷ drop (j + 1) (clauseAt cells clause) =
+        rw add-one (row-cons (trying-row (turn .trying)) j h) in
+        ap (λ (a : Answer). onward a rest-of) gave
+        ∙ sym (in-step k cells left s budget made _ (drop (j + 1) (clauseAt cells clause)))
+        ∙ (rw cons at (turn .same))
+
+    pub turn-stops : ((m : ℕ) → r ≡ None m → ⊥) → answerIn r ≡ whole
+    turn-stops h′ = sym (onward-stops r rest-of h′) ∙ onwards
+
+    pub turn-next : (m : ℕ) → r ≡ None m → Turn k cells occ planes s clause left calls budget m (j + 1)
+    turn-next m f =
         record {
-          ready = t .ready;
-          shows = t .shows;
-          known = trying-known;
-          unmet = false-unmet s (clauseAt cells clause) (t .failing) _ (row-in trying-row j trying-left);
-          flips = t .flips;
-          enough = t .enough;
+          trying = trying-next (turn .trying) h m (none-made r budget made m _ gave f .1);
+          same = sym (onward-none r rest-of m f) ∙ onwards;
         }
-
-    -- after the literal: its answer, and after none the literals after it
-    module _ (r : Found)
-        (gave : answerIn r ≡ settle budget calls (attemptFrom k cells left s (literalOf (literalAt cells clause j)))) where
-      abbrev rest-of : ℕ → Answer
-      rest-of d = settle budget d (literalsFrom k cells left s (drop (j + 1) (clauseAt cells clause)))
-
-      onwards :
-          settle budget calls (literalsFrom k cells left s (drop j (clauseAt cells clause))) ≡ onward (answerIn r) rest-of
-      onwards =
-          rw trying-cons (in-step k cells left s budget calls _ (drop (j + 1) (clauseAt cells clause)))
-          ∙ ap (λ (a : Answer). onward a rest-of) (sym gave)
-
-      pub trying-none : (made : ℕ) → r ≡ None made →
-          settle budget calls (literalsFrom k cells left s (drop j (clauseAt cells clause))) ≡ rest-of made
-      trying-none made f = onwards ∙ onward-none r rest-of made f
-
-      pub trying-made : (made : ℕ) → r ≡ None made → made ≤ budget
-      trying-made made f = none-made r budget calls made _ gave f .1
-
-      pub trying-stops : ((made : ℕ) → r ≡ None made → ⊥) →
-          settle budget calls (literalsFrom k cells left s (drop j (clauseAt cells clause))) ≡ answerIn r
-      trying-stops h′ = onwards ∙ onward-stops r rest-of h′
 
 -- ---- one literal
 

@@ -7,7 +7,7 @@ use words::Assignment;
 ghost use mathlib.Core.Path.{_≡_};
 ghost use mathlib.Core.List.{List};
 ghost use Prim.Native.Nat.{_≤_};
-ghost use lib.ListN.{length, drop};
+ghost use lib.ListN.{length};
 ghost use Rattle.formula.specs.Formula.{Clause, met, literalOf};
 ghost use Rattle.formula.specs.Machine.{IsLiteral, clauseAt};
 ghost use Rattle.tree.specs.BudgetLaws.{settle};
@@ -97,15 +97,13 @@ pub fn call(
         &mut next,
         at,
         clause,
-        0,
         left,
         calls + 1,
         budget,
     )
 }
 
-// The literals of the chosen clause from the one with number j on, one after the other; `next` is
-// where their planes go.
+// The literals of the chosen clause, one after the other; `next` is where their planes go.
 fn literals(
     cells: &[u32; formula::CELLS],
     occ: &[u64; OCCURRENCES],
@@ -114,48 +112,28 @@ fn literals(
     next: &mut [u64; PLANES],
     at: Path,
     clause: usize,
-    j: u32,
     left: u32,
     calls: u32,
     budget: u32,
 ) -> Found
-    requires { ⌜ Trying k (now cells) (now occ) (now planes) (stateIn at) clause j left calls budget ⌝ }
+    requires { ⌜ Trying k (now cells) (now occ) (now planes) (stateIn at) clause 0 left calls budget ⌝ }
     requires { ⌜ length (now next) ≡ planeCells ⌝ }
     ensures { λ r. ⌜ answerIn r ≡ settle budget calls
-        (literalsFrom k (now (cells .entry)) left (stateIn at) (drop j (clauseAt (now (cells .entry)) clause))) ⌝ }
+        (literalsFrom k (now (cells .entry)) left (stateIn at) (clauseAt (now (cells .entry)) clause)) ⌝ }
 {
-    if j == formula::length_at(cells, clause) {
-        return Found::None(calls);
+    let size = formula::length_at(cells, clause);
+    let mut made = calls;
+    let mut j = 0;
+    while j < size {
+        let literal = formula::literal_at(cells, clause, j);
+        let tried = attempt(cells, occ, k, planes, next, at, literal, left, made, budget);
+        let Found::None(more) = tried else {
+            return tried;
+        };
+        made = more;
+        j += 1;
     }
-    let literal = formula::literal_at(cells, clause, j);
-    let tried = attempt(
-        cells,
-        occ,
-        k,
-        planes,
-        next,
-        at,
-        literal,
-        left,
-        calls,
-        budget,
-    );
-    let Found::None(made) = tried else {
-        return tried;
-    };
-    literals(
-        cells,
-        occ,
-        k,
-        planes,
-        next,
-        at,
-        clause,
-        j + 1,
-        left,
-        made,
-        budget,
-    )
+    Found::None(made)
 }
 
 // One literal: where it is tried, a call with one flip less.

@@ -1,24 +1,26 @@
 -- The proof of the cycle of calls {attempt, call, literals}: a call, the literals that it tries and the call for one literal give
 -- what the definition gives, cut at the budget. The measure combines the flips left and the literals left: ten for each flip, for a
--- call nine more, and for its at most eight literals one more for each literal left; each literal tried makes a call with one flip
--- less.
+-- call nine more, and for the loop over its at most eight literals one more for each, which the loop itself counts down; each literal
+-- tried makes a call with one flip less.
 use mathlib.Core.Path.{_≡_, refl, sym, ap, _∙_}
 use mathlib.Core.Bool.{true}
-use Prim.Native.Nat.{ℕ, _+_, _-_, _*_, _≤_, _<_}
+use Prim.Native.Nat.{ℕ, _+_, _-_, _*_, _<_}
 use native.Mathlib.Nat.{pos-of-ne-zero}
 use native.Mathlib.Omega.{arith}
 use borrow.Author.Tests.{not-true, not-false, leb-true, leb-false}
 use borrow.Author.Needs.{needs}
 use borrow.Fn.Kinds.{In}
 use borrow.Fn.PlainCycle.{Measures, is, falls, and}
+use lib.ListN.{length}
+use Rattle.planes.specs.Machine.{planeCells}
 use Rattle.formula.specs.Machine.{held, clauseAt, lengthAt, literalAt}
 use Rattle.formula.specs.Formula.{literalOf}
 use Rattle.search.specs.Ball.{State, flip, isTried, skip}
 use Rattle.tree.specs.Budget.{Answer}
 use Rattle.tree.specs.BudgetLaws.{settle}
 use Rattle.tree.specs.Machine.{answerIn}
-use Rattle.search.specs.Machine.{stateIn, Chosen, Tryable, Trying, callFrom, attemptFrom, literalsFrom}
-use Rattle.search.specs.MachineLaws.{in-spent, in-clear, in-none, in-literals, in-end, in-passed, in-tried, trying-row, trying-left, trying-end, trying-attempt, trying-next, trying-none, trying-made, trying-stops, attempt-tryable, not-none}
+use Rattle.search.specs.Machine.{stateIn, Chosen, Tryable, Trying, Turn, callFrom, attemptFrom, literalsFrom}
+use Rattle.search.specs.MachineLaws.{in-spent, in-clear, in-none, in-literals, in-passed, in-tried, trying-row, trying-attempt, turn-start, turn-end, turn-stops, turn-next, attempt-tryable, not-none}
 use Rattle.search.proofs.ball.attempt.Reads as attempt
 use Rattle.search.proofs.ball.attempt.Kinds as attempt-kinds
 use Rattle.search.proofs.ball.+attempt+call+literals.Lts-attempt as attempt-lts
@@ -43,8 +45,7 @@ abbrev μ-call : Measures 3 call-kinds.ps ℕ
 μ-call κs a = a .1 .1 .1 .1 .1 .0 * 10 + 9
 
 abbrev μ-literals : Measures 4 literals-kinds.ps ℕ
-μ-literals κs a =
-    a .1 .1 .1 .1 .1 .1 .1 .1 .0 * 10 + (lengthAt (a .0 .now) (a .1 .1 .1 .1 .1 .1 .0) - a .1 .1 .1 .1 .1 .1 .1 .0)
+μ-literals κs a = a .1 .1 .1 .1 .1 .1 .1 .0 * 10 + lengthAt (a .0 .now) (a .1 .1 .1 .1 .1 .1 .0)
 
 abbrev μ-attempt : Measures 4 attempt-kinds.ps ℕ
 μ-attempt κs a = a .1 .1 .1 .1 .1 .1 .1 .0 * 10
@@ -88,8 +89,6 @@ literals-claims t = (
   literal-at-reads.Learnt,
   attempt-below t,
   attempt.Post,
-  literals-below t,
-  literals.Post,
 )
 
 abbrev attempt-claims : ℕ → attempt-lts.Claims
@@ -202,75 +201,72 @@ module _ (t : ℕ) where
 
 -- ---- its literals
 
+abbrev Inv-loop : literals-lts.InvT-loop
+Inv-loop cells occ k planes next₀ at clause left calls budget size made₀ j₀ next made j =
+    Turn k cells occ planes (stateIn at) clause left calls budget made j × (length next ≡ planeCells)
+
+abbrev μ-loop : literals-lts.MeasureT-loop
+μ-loop cells occ k planes next₀ at clause left calls budget size made₀ j₀ next made j = size - j
+
 module _ (t : ℕ) where
-  literals-length-at-requires : literals-lts.Need-length-at-requires (literals-claims t) (literals-at t) literals.Post
+  literals-length-at-requires : literals-lts.Need-length-at-requires (literals-claims t) (literals-at t) literals.Post Inv-loop μ-loop
   literals-length-at-requires c κs = trying-row (c .pre .1 .0) .inside
 
-  literals-returns : literals-lts.Need-returns (literals-claims t) (literals-at t) literals.Post
-  unfolding answerIn
-  literals-returns c =
-      let s = c .before .before in
-      let end = trying-end (s .pre .1 .0) (c .if1 .taken ∙ c .before .length-at .ensures) in
-      sym (rw end (in-end _ _ _ _ _ _ (s .pre .1 .0 .enough)))
+  literals-loop-holds : literals-lts.Need-loop-holds (literals-claims t) (literals-at t) literals.Post Inv-loop μ-loop
+  literals-loop-holds c = (turn-start (c .before .pre .1 .0), c .before .pre .1 .1)
 
   -- there is a literal j
-  module _ (c : literals-lts.Else1 (literals-claims t) (literals-at t) literals.Post) where
-    more : let a = c .before .before .args in a .j ≡ lengthAt (a .cells .now) (a .clause) → ⊥
-    more e = c .if1 .left (e ∙ sym (c .before .length-at .ensures))
+  more : (c : literals-lts.In-loop (literals-claims t) (literals-at t) literals.Post Inv-loop μ-loop) →
+      let a = c .before .before .before .args in c .before .loop .j < lengthAt (a .cells .now) (a .clause)
+  more c = omega (arith, c .loop-test .taken, c .before .before .length-at .ensures)
 
-    left-over : let a = c .before .before .args in a .j < lengthAt (a .cells .now) (a .clause)
-    left-over = trying-left (c .before .before .pre .1 .0) more
-
-  literals-literal-at-requires : literals-lts.Need-literal-at-requires (literals-claims t) (literals-at t) literals.Post
+  literals-literal-at-requires : literals-lts.Need-literal-at-requires (literals-claims t) (literals-at t) literals.Post Inv-loop μ-loop
   literals-literal-at-requires c κs =
-      let row = trying-row (c .before .before .pre .1 .0) in
-      (row .inside, omega (arith, row .short, left-over c))
+      let row = trying-row (c .before .loop .inv .0 .trying) in
+      (row .inside, omega (arith, row .short, more c))
 
-  literals-attempt-requires : literals-lts.Need-attempt-requires (literals-claims t) (literals-at t) literals.Post
+  literals-attempt-requires : literals-lts.Need-attempt-requires (literals-claims t) (literals-at t) literals.Post Inv-loop μ-loop
   literals-attempt-requires c κs =
       let d = c .before .before in
-      let s = d .before .before in (
-        omega (arith, s .pre .0, left-over d),
-        (rw (c .before .literal-at .ensures) (trying-attempt (s .pre .1 .0) (more d)), s .pre .1 .1),
+      let inv = d .before .loop .inv in (
+        omega (arith, d .before .before .before .pre .0, more d),
+        (rw (c .before .literal-at .ensures) (trying-attempt (inv .0 .trying) (more d)), inv .1),
       )
 
-  literals-enum-known-tried : literals-lts.Need-enum-known-tried (literals-claims t) (literals-at t) literals.Post
+  literals-enum-known-tried : literals-lts.Need-enum-known-tried (literals-claims t) (literals-at t) literals.Post Inv-loop μ-loop
   literals-enum-known-tried c = c .match .keys1
 
-  -- what it gave
-  gave : (c : literals-lts.After-attempt (literals-claims t) (literals-at t) literals.Post) →
-      let s = c .before .before .before .before .before .args in
-      let literal = literalOf (literalAt (s .cells .now) (s .clause) (s .j)) in
+  -- what literal j gave
+  gave : (c : literals-lts.After-attempt (literals-claims t) (literals-at t) literals.Post Inv-loop μ-loop) →
+      let turn = c .before .before .before .before in
+      let a = turn .before .before .args in
+      let literal = literalOf (literalAt (a .cells .now) (a .clause) (turn .loop .j)) in
       answerIn (c .attempt .result) ≡
-      settle (s .budget) (s .calls) (attemptFrom (s .k) (s .cells .now) (s .left) (stateIn (s .at)) literal)
+      settle (a .budget) (turn .loop .made) (attemptFrom (a .k) (a .cells .now) (a .left) (stateIn (a .at)) literal)
   gave c = rw (c .before .before .literal-at .ensures) at (c .attempt .ensures .0)
 
-  literals-returns-2 : literals-lts.Need-returns-2 (literals-claims t) (literals-at t) literals.Post
-  literals-returns-2 c =
+  literals-returns : literals-lts.Need-returns (literals-claims t) (literals-at t) literals.Post Inv-loop μ-loop
+  literals-returns c =
       let a = c .before in
       let d = a .before .before .before in
-      sym (trying-stops (d .before .before .pre .1 .0) (more d) (a .attempt .result) (gave a) (not-none _ (c .match .keys2)))
+      turn-stops (d .before .loop .inv .0) (more d) _ (gave a) (not-none _ (c .match .keys2))
 
-  literals-add-literals : literals-lts.Need-add-literals (literals-claims t) (literals-at t) literals.Post
-  literals-add-literals c =
-      let d = c .before .before .before .before .before .before .before in
-      omega (arith, left-over d, trying-row (d .before .before .pre .1 .0) .short)
+  literals-add-j : literals-lts.Need-add-j (literals-claims t) (literals-at t) literals.Post Inv-loop μ-loop
+  literals-add-j c = search needs
 
-  literals-literals-requires : literals-lts.Need-literals-requires (literals-claims t) (literals-at t) literals.Post
-  literals-literals-requires c κs =
-      let a = c .before .before .before .before in
+  literals-loop-less : literals-lts.Need-loop-less (literals-claims t) (literals-at t) literals.Post Inv-loop μ-loop
+  literals-loop-less c = search needs
+
+  literals-loop-again : literals-lts.Need-loop-again (literals-claims t) (literals-at t) literals.Post Inv-loop μ-loop
+  literals-loop-again c =
+      let a = c .before .before .before in
       let d = a .before .before .before in
-      let s = d .before .before in
-      let e = c .before .before .tried .given in
-      let made = trying-made (s .pre .1 .0) (more d) (a .attempt .result) (gave a) (e .0 .0) (e .1) in
-      (omega (arith, s .pre .0, left-over d), (trying-next (s .pre .1 .0) (more d) _ made, a .attempt .ensures .1))
+      let e = c .before .tried .given in
+      (turn-next (d .before .loop .inv .0) (more d) _ (gave a) (e .0 .0) (e .1), a .attempt .ensures .1)
 
-  literals-returns-3 : literals-lts.Need-returns-3 (literals-claims t) (literals-at t) literals.Post
-  literals-returns-3 c =
-      let a = c .before .before .before .before .before in
-      let d = a .before .before .before in
-      let e = c .before .before .before .tried .given in
-      c .literals .ensures ∙ sym (trying-none (d .before .before .pre .1 .0) (more d) (a .attempt .result) (gave a) (e .0 .0) (e .1))
+  literals-returns-2 : literals-lts.Need-returns-2 (literals-claims t) (literals-at t) literals.Post Inv-loop μ-loop
+  literals-returns-2 c =
+      turn-end (c .before .loop .inv .0) (omega (arith, c .loop-test .left, c .before .before .length-at .ensures))
 
 -- ---- one literal
 
@@ -355,13 +351,14 @@ pub +attempt+call+literals-spec : {M : Type 1} → statement M
     (call-literals-requires t)
     (call-returns-5 t))
     (λ t.
-    literals-lts.spec (literals-claims t) (literals-at t) literals.Post
+    literals-lts.spec (literals-claims t) (literals-at t) literals.Post Inv-loop μ-loop
     (literals-length-at-requires t)
-    (literals-returns t)
+    (literals-loop-holds t)
     (literals-literal-at-requires t)
     (literals-attempt-requires t)
     (literals-enum-known-tried t)
-    (literals-returns-2 t)
-    (literals-add-literals t)
-    (literals-literals-requires t)
-    (literals-returns-3 t))
+    (literals-returns t)
+    (literals-add-j t)
+    (literals-loop-less t)
+    (literals-loop-again t)
+    (literals-returns-2 t))
