@@ -1,4 +1,4 @@
-// An independent implementation of paper 01 and of papers 1 and 2 of 02, compared with the proved library on many inputs: long
+// An independent implementation of paper 01 and of papers 1, 2 and 4 of 02, compared with the proved library on many inputs: long
 // and short, valid and damaged, and for paper 2 tallies of the sheet, of other sheets, and of any numbers. It shares no code with
 // the crates. It prints how many answers of each kind agreed, and every disagreement.
 
@@ -205,6 +205,11 @@ fn is_true(term: &[(u32, bool)], marks: u32) -> bool {
     term.iter().any(|l| met(l, marks))
 }
 
+// No flip that is left on the path can make it true. An empty term has nothing to flip.
+fn is_dead(term: &[(u32, bool)], marks: u32, flipped: u32) -> bool {
+    !is_true(term, marks) && term.iter().all(|l| bit(flipped, l.0))
+}
+
 fn counts(sheet: &Result<Sheet, Refused>, asked: &Question) -> CountsReply {
     let mut reply = CountsReply::default();
     let terms = match sheet {
@@ -406,10 +411,12 @@ impl Codes {
 
 // ---- the search
 
+// Later notes that a call said no for a dead term while the first false term was not dead: step 3 of paper 01 would have gone on.
 struct Search<'a> {
     sheet: &'a Sheet,
     calls: u64,
     budget: u64,
+    later: bool,
 }
 
 enum Seen {
@@ -430,6 +437,10 @@ impl Search<'_> {
         if left == 0 {
             return Seen::No;
         }
+        if self.sheet.terms.iter().any(|t| is_dead(t, marks, flipped)) {
+            self.later |= !is_dead(term, marks, flipped);
+            return Seen::No;
+        }
         for l in term {
             let bit = 1 << (l.0 - 1);
             if flipped & bit != 0 {
@@ -444,8 +455,24 @@ impl Search<'_> {
     }
 }
 
-fn run(codes: &mut Codes, plan: (u32, u32), budget: u32, bytes: &[u8]) -> Reply {
-    let refused = |r: Refused| Reply { number: r.0, place: r.1, ..Reply::default() };
+// Where a block begins, its radius, and its code.
+type Block = (u32, u32, Vec<u32>);
+
+// The next whole word, the word of the first block changing fastest. There is none after the last.
+fn advance(blocks: &[Block], digits: &mut [usize]) -> bool {
+    for (block, digit) in blocks.iter().zip(digits) {
+        *digit += 1;
+        if *digit < block.2.len() {
+            return true;
+        }
+        *digit = 0;
+    }
+    false
+}
+
+// The reply, and whether paper 4 of 02 had a part in it.
+fn run(codes: &mut Codes, plan: (u32, u32), budget: u32, bytes: &[u8]) -> (Reply, bool) {
+    let refused = |r: Refused| (Reply { number: r.0, place: r.1, ..Reply::default() }, false);
     let (b, s) = plan;
     if b < 1 || b > 12 || s > b {
         return refused((8, 0));
@@ -454,7 +481,7 @@ fn run(codes: &mut Codes, plan: (u32, u32), budget: u32, bytes: &[u8]) -> Reply 
         Ok(sheet) => sheet,
         Err(r) => return refused(r),
     };
-    let mut blocks = Vec::new();
+    let mut blocks: Vec<Block> = Vec::new();
     let mut at = 0;
     while at < sheet.n {
         let t = b.min(sheet.n - at);
@@ -463,28 +490,17 @@ fn run(codes: &mut Codes, plan: (u32, u32), budget: u32, bytes: &[u8]) -> Reply 
     }
     let radius = blocks.iter().map(|b| b.1).sum();
     let mut digits = vec![0usize; blocks.len()];
-    let mut search = Search { sheet: &sheet, calls: 0, budget: budget as u64 };
-    let reply = |verdict, marks, calls: u64| Reply { verdict, batch: sheet.batch, marks, calls: calls as u32, number: 0, place: 0 };
-    loop {
+    let mut search = Search { sheet: &sheet, calls: 0, budget: budget as u64, later: false };
+    let (verdict, marks, calls) = loop {
         let centre = blocks.iter().zip(&digits).fold(0u32, |c, (b, d)| c | b.2[*d] << b.0);
         match search.call(centre, 0, radius) {
-            Seen::Found(marks) => return reply(1, marks, search.calls),
-            Seen::Spent => return reply(3, 0, budget as u64),
+            Seen::Found(marks) => break (1, marks, search.calls as u32),
+            Seen::Spent => break (3, 0, budget),
+            Seen::No if !advance(&blocks, &mut digits) => break (2, 0, search.calls as u32),
             Seen::No => {}
         }
-        let mut i = 0;
-        while i < digits.len() {
-            digits[i] += 1;
-            if digits[i] < blocks[i].2.len() {
-                break;
-            }
-            digits[i] = 0;
-            i += 1;
-        }
-        if i == digits.len() {
-            return reply(2, 0, search.calls);
-        }
-    }
+    };
+    (Reply { verdict, batch: sheet.batch, marks, calls, number: 0, place: 0 }, search.later)
 }
 
 // ---- alike, and the operations on codes
@@ -594,6 +610,127 @@ fn sources_agree() -> bool {
         let bytes = written(*n, clauses);
         let verdict = if *model { 1 } else { 2 };
         (1..=12).all(|b| (0..=b).all(|s| library_run((b, s), u32::MAX, &bytes).verdict == verdict))
+    })
+}
+
+// ---- fixed runs
+
+// The plan, the budget, the number of variables, the clauses, and the reply: verdict (1 clear, 2 none, 3 spent), marks and calls.
+type Worked = ((u32, u32), u32, u32, &'static [&'static [i32]], (u32, u32, u32));
+
+const WORKED: [Worked; 49] = [
+    // the runs among the settled examples of paper 01
+    ((3, 1), 1, 0, &[], (1, 0, 1)),
+    ((3, 1), 9, 0, &[&[]], (2, 0, 1)),
+    ((3, 1), 9, 3, &[&[1, 2], &[-1, -3], &[-3]], (1, 1, 2)),
+    ((1, 1), 2, 1, &[&[1], &[-1]], (2, 0, 2)),
+    ((1, 1), 1, 1, &[&[1], &[-1]], (3, 0, 1)),
+    ((1, 0), 2, 1, &[&[1], &[-1]], (2, 0, 2)),
+    ((2, 1), 6, 2, &[&[1, 2], &[1, -2], &[-1, 2], &[-1, -2]], (2, 0, 6)),
+    ((2, 2), 5, 2, &[&[1, 2], &[1, -2], &[-1, 2], &[-1, -2]], (2, 0, 5)),
+    // paper 4 of 02: with variable 1 flipped the last clause is dead, and the second is not tried
+    ((3, 3), 2, 3, &[&[1], &[2, 3], &[-1]], (2, 0, 2)),
+    ((3, 3), 1, 3, &[&[1], &[2, 3], &[-1]], (3, 0, 1)),
+    ((3, 3), 0, 3, &[&[1], &[2, 3], &[-1]], (3, 0, 0)),
+    ((3, 3), 3, 3, &[&[1], &[2, 3], &[-1]], (2, 0, 2)),
+    ((3, 3), u32::MAX, 3, &[&[1], &[2, 3], &[-1]], (2, 0, 2)),
+    // its two balls, of words 0 and 1: the second starts with nothing flipped, and the last clause is false but not dead
+    ((3, 2), 7, 3, &[&[1], &[2, 3], &[-1]], (2, 0, 7)),
+    ((3, 2), 6, 3, &[&[1], &[2, 3], &[-1]], (3, 0, 6)),
+    // here the last clause dies in the second ball only
+    ((3, 2), 7, 3, &[&[-1], &[2, 3], &[1]], (2, 0, 7)),
+    ((3, 2), 6, 3, &[&[-1], &[2, 3], &[1]], (3, 0, 6)),
+    // with one flip, words 0 and 7, the flips run out where it is dead
+    ((3, 1), 9, 3, &[&[1], &[2, 3], &[-1]], (2, 0, 4)),
+    // the first false clause has a flipped variable and others that are not; the last is dead
+    ((3, 3), 9, 3, &[&[1], &[-1, 2, 3], &[-1]], (2, 0, 2)),
+    // the way back undoes the flip: the last clause is dead after variable 1 and true after 2
+    ((3, 3), 4, 3, &[&[1, 2], &[3], &[-1]], (1, 6, 4)),
+    ((3, 3), 3, 3, &[&[1, 2], &[3], &[-1]], (3, 0, 3)),
+    // the last clause is dead only when both of its variables are flipped, in one block or in the first of two
+    ((4, 4), 9, 4, &[&[1], &[2], &[3, 4], &[-1, -2]], (2, 0, 3)),
+    ((2, 2), 9, 4, &[&[1], &[2], &[3, 4], &[-1, -2]], (2, 0, 3)),
+    ((4, 4), 2, 4, &[&[1], &[2], &[3, 4], &[-1, -2]], (3, 0, 2)),
+    // the last variable has the highest bit
+    ((1, 1), 9, 32, &[&[32], &[1, 2], &[-32]], (2, 0, 2)),
+    ((8, 8), 9, 32, &[&[32], &[1, 2], &[-32]], (2, 0, 2)),
+    // an empty clause is dead at once wherever it stands, in each ball
+    ((2, 2), 9, 2, &[&[1], &[], &[2]], (2, 0, 1)),
+    ((2, 2), 1, 2, &[&[1], &[], &[2]], (2, 0, 1)),
+    ((2, 2), 0, 2, &[&[1], &[], &[2]], (3, 0, 0)),
+    ((2, 2), 9, 2, &[&[], &[1], &[2]], (2, 0, 1)),
+    ((2, 2), 9, 2, &[&[1], &[2], &[]], (2, 0, 1)),
+    ((2, 2), 9, 2, &[&[-1], &[2], &[]], (2, 0, 1)),
+    ((2, 1), 9, 2, &[&[1], &[], &[2]], (2, 0, 2)),
+    ((2, 1), 9, 2, &[&[1], &[2], &[]], (2, 0, 2)),
+    ((2, 1), 1, 2, &[&[1], &[2], &[]], (3, 0, 1)),
+    // with radius 0 each of the words is one call, dead or not
+    ((2, 0), 9, 2, &[&[1], &[], &[2]], (2, 0, 4)),
+    ((2, 0), 3, 2, &[&[1], &[], &[2]], (3, 0, 3)),
+    ((1, 0), 9, 2, &[&[1], &[2], &[]], (2, 0, 4)),
+    ((3, 0), 9, 3, &[&[1], &[2, 3], &[-1]], (2, 0, 8)),
+    ((2, 0), 9, 2, &[&[1], &[2]], (1, 3, 4)),
+    // a true clause is not dead, though all its variables are flipped: one met literal is enough
+    ((2, 2), 9, 2, &[&[1], &[2]], (1, 3, 3)),
+    ((2, 2), 3, 2, &[&[1], &[2]], (1, 3, 3)),
+    ((2, 2), 2, 2, &[&[1], &[2]], (3, 0, 2)),
+    ((2, 1), 9, 2, &[&[1], &[2]], (1, 3, 4)),
+    ((3, 3), 9, 3, &[&[1], &[2], &[-1, 2], &[3]], (1, 7, 4)),
+    ((3, 3), 9, 3, &[&[1], &[2], &[2, -1], &[3]], (1, 7, 4)),
+    // a false clause with one variable that is not flipped is not dead, be it the first false one or a later one
+    ((2, 2), 9, 2, &[&[1], &[-1, 2]], (1, 3, 3)),
+    ((3, 3), 9, 3, &[&[1], &[3], &[-1, 2]], (1, 7, 4)),
+    ((3, 3), 9, 3, &[&[1], &[3], &[2, -1]], (1, 7, 4)),
+];
+
+// The library and the search above both give the reply that was worked out by hand.
+fn replies(codes: &mut Codes, plan: (u32, u32), budget: u32, bytes: &[u8], worked: (u32, u32, u32)) -> bool {
+    let (verdict, marks, calls) = worked;
+    let expected = Reply { verdict, batch: 2, marks, calls, number: 0, place: 0 };
+    [library_run(plan, budget, bytes), run(codes, plan, budget, bytes).0] == [expected; 2]
+}
+
+fn counts_agree(codes: &mut Codes) -> bool {
+    WORKED.iter().all(|(plan, budget, n, clauses, worked)| replies(codes, *plan, *budget, &written(*n, clauses), *worked))
+}
+
+const PAID: [i32; 8] = [1, 2, 3, 4, 5, 6, 7, 8];
+const HELD: [i32; 8] = [-1, -2, -3, -4, -5, -6, -7, -8];
+const KEPT: [i32; 8] = [-25, -26, -27, -28, -29, -30, -31, -32];
+
+// Clauses of all lengths that stay true, since nothing flips their variables.
+fn kept(count: usize) -> impl Iterator<Item = &'static [i32]> {
+    (0..count).map(|i| &KEPT[..1 + i % 8])
+}
+
+// Clauses (1) to (length), one that is false until 9 or 10 is flipped, and one that holds what the first ones pay: it dies with the
+// last of their flips. Kept clauses stand before all, before the one that dies, and after it.
+fn dying(length: usize, kept_counts: [usize; 3]) -> Vec<u8> {
+    let [before, between, after] = kept_counts.map(kept);
+    let false_clauses = PAID[..length].chunks(1).chain([&[9, 10][..]]);
+    let clauses: Vec<&[i32]> = before.chain(false_clauses).chain(between).chain([&HELD[..length]]).chain(after).collect();
+    written(32, &clauses)
+}
+
+// Wherever in a sheet of up to 1,024 clauses the first false one and the dead one stand, the call after the last flip says no. An
+// empty one, length 0, is dead at the first call. In the last nine rounds one of each length is the last of 1,024.
+fn places_agree(codes: &mut Codes) -> bool {
+    (0..=1030).all(|round: usize| {
+        let length = round % 9;
+        let room = 1022 - length;
+        let k = round.min(room);
+        let sheets = [[0, k, 0], [k, 0, 0], [0, k, room - k]].map(|kept_counts| dying(length, kept_counts));
+        sheets.iter().all(|bytes| replies(codes, (1, 1), u32::MAX, bytes, (2, 0, length as u32 + 1)))
+    })
+}
+
+// However often a clause is repeated that is true with all its variables flipped, or false with one that is not, it is not dead.
+fn repeats_agree(codes: &mut Codes) -> bool {
+    (1..=1022).all(|k| {
+        let met = [vec![&[1][..]; k], vec![&[2]]].concat();
+        let open = [vec![&[1][..], &[3]], vec![&[-1, 2]; k]].concat();
+        let mut clear = |clauses: &[&[i32]], worked| replies(codes, (3, 3), u32::MAX, &written(3, clauses), worked);
+        clear(&met, (1, 3, 3)) && clear(&open, (1, 7, 4))
     })
 }
 
@@ -748,6 +885,17 @@ impl Random {
     }
 }
 
+fn random_term(r: &mut Random, n: u32, length: u64) -> Vec<(u32, bool)> {
+    let mut term: Vec<(u32, bool)> = Vec::new();
+    while (term.len() as u64) < length {
+        let v = r.range(1, n as u64) as u32;
+        if term.iter().all(|l| l.0 != v) {
+            term.push((v, r.below(2) == 0));
+        }
+    }
+    term
+}
+
 fn random_sheet(r: &mut Random) -> Sheet {
     let n = match r.below(4) {
         0 => r.range(0, 4),
@@ -768,15 +916,21 @@ fn random_sheet(r: &mut Random) -> Sheet {
             continue;
         }
         let length = if r.below(60) == 0 { 0 } else { r.range(longest.min(2), longest) };
-        let mut term: Vec<(u32, bool)> = Vec::new();
-        while (term.len() as u64) < length {
-            let v = r.range(1, n as u64) as u32;
-            if term.iter().all(|l| l.0 != v) {
-                term.push((v, r.below(2) == 0));
-            }
-        }
-        terms.push(term);
+        terms.push(random_term(r, n, length));
     }
+    Sheet { batch: r.next() as u32, n, terms }
+}
+
+// Few variables in many short terms, none of them empty: flips that make one term true often leave a later one dead.
+fn dense_sheet(r: &mut Random) -> Sheet {
+    let n = r.range(3, 10) as u32;
+    let longest = r.range(2, 4).min(n as u64);
+    let count = r.range(n as u64, 5 * n as u64);
+    let mut term = || {
+        let length = r.range(1, longest);
+        random_term(r, n, length)
+    };
+    let terms = (0..count).map(|_| term()).collect();
     Sheet { batch: r.next() as u32, n, terms }
 }
 
@@ -906,10 +1060,12 @@ fn random_family(r: &mut Random, bytes: &[u8]) -> [Input; 4] {
 
 // ---- the comparison
 
-// How many answers of each kind there were, how often each saying applied, and how many disagreements.
+// How many answers of each kind there were, how often each saying applied, and how many disagreements. Of kinds and later the first
+// numbers are those of the inputs, the second those of the dense sheets.
 #[derive(Default)]
 struct Totals {
-    kinds: [u64; 4],
+    kinds: [[u64; 4]; 2],
+    later: [[u64; 4]; 2],
     numbers: [u64; 10],
     pairs: [u64; 3],
     terms: [u64; 4],
@@ -932,6 +1088,9 @@ impl Totals {
 
     fn fixed(&mut self, codes: &mut Codes) {
         self.check(sources_agree(), || "an example of the sources differs".into());
+        self.check(counts_agree(codes), || "a fixed run differs".into());
+        self.check(places_agree(codes), || "a run with a dead term at some place differs".into());
+        self.check(repeats_agree(codes), || "a run with a repeated term differs".into());
         self.check(nothing_agrees(), || "an answer to an empty buffer differs".into());
         self.check(codes_agree(codes), || "codes, volumes or floors differ".into());
         self.check(begins_agree(), || "the beginning of a fixed tally differs".into());
@@ -948,19 +1107,33 @@ impl Totals {
         self.check(fine, || format!("alike {:?} {:?}: expected {:?}", bytes, other, expected));
     }
 
-    // The answer of the library is handed on.
     fn run(&mut self, r: &mut Random, codes: &mut Codes, bytes: &[u8]) -> Reply {
         let plan = random_plan(r);
         let high = [0, 1, 2, 30, 400, 3000][r.below(6) as usize];
-        let mut budget = r.below(high + 1) as u32;
-        let mut expected = run(codes, plan, budget, bytes);
+        let budget = r.below(high + 1) as u32;
+        self.compare(r, codes, 0, (plan, budget), bytes)
+    }
+
+    // With a radius above 1 many a call has flipped all variables of some term.
+    fn dense(&mut self, r: &mut Random, codes: &mut Codes) {
+        let b = r.range(2, 8);
+        let plan = (b as u32, r.range(2, b) as u32);
+        let bytes = write(&dense_sheet(r));
+        self.compare(r, codes, 1, (plan, 3000), &bytes);
+    }
+
+    // The first of asked is the plan, the second the budget. The answer of the library is handed on.
+    fn compare(&mut self, r: &mut Random, codes: &mut Codes, stream: usize, asked: ((u32, u32), u32), bytes: &[u8]) -> Reply {
+        let (plan, mut budget) = asked;
+        let (mut expected, mut later) = run(codes, plan, budget, bytes);
         if expected.verdict != 0 && expected.verdict != 3 && r.below(2) == 0 {
             // the last call needed is not one too many, and one call fewer is not enough
             budget = expected.calls - r.below(2) as u32;
-            expected = run(codes, plan, budget, bytes);
+            (expected, later) = run(codes, plan, budget, bytes);
         }
         let got = library_run(plan, budget, bytes);
-        self.kinds[expected.verdict as usize] += 1;
+        self.kinds[stream][expected.verdict as usize] += 1;
+        self.later[stream][expected.verdict as usize] += later as u64;
         self.numbers[expected.number as usize] += 1;
         self.check(got == expected, || {
             format!("plan {:?} budget {} sheet {:?}: expected {:?}, got {:?}", plan, budget, bytes, expected, got)
@@ -1075,8 +1248,11 @@ impl Totals {
     }
 
     fn print(&self, inputs: u64) {
-        let Totals { kinds, numbers, pairs, terms, sayings, begun, toggles, .. } = self;
+        let Totals { kinds: [kinds, dense], later, numbers, pairs, terms, sayings, begun, toggles, .. } = self;
         println!("{} inputs: refused {} clear {} none {} spent {}", inputs, kinds[0], kinds[1], kinds[2], kinds[3]);
+        println!("{} dense sheets: clear {} none {} spent {}", dense.iter().sum::<u64>(), dense[1], dense[2], dense[3]);
+        let [some, more] = later.map(|l| l[1] + l[2]);
+        println!("clear or none with a dead term after the first false one: inputs {} dense sheets {}", some, more);
         println!("refusals 1 to 8: {:?}", &numbers[1..9]);
         println!("pairs: refused {} alike {} different {}", pairs[0], pairs[1], pairs[2]);
         println!("terms: refused {} past the last {} false {} true {}", terms[0], terms[1], terms[2], terms[3]);
@@ -1093,6 +1269,7 @@ fn main() {
     let mut r = Random(0x9e37_79b9_7f4a_7c15);
     let mut questions = Random(0x2545_f491_4f6c_dd1d);
     let mut touches = Random(0xd1b5_4a32_d192_ed03);
+    let mut flips = Random(0xa076_1d64_78bd_642f);
     let mut codes = Codes(HashMap::new());
     let mut totals = Totals::default();
     totals.fixed(&mut codes);
@@ -1109,6 +1286,9 @@ fn main() {
         }
         if touches.below(20) == 0 {
             totals.tallies(&mut touches, &bytes);
+        }
+        if flips.below(4) == 0 {
+            totals.dense(&mut flips, &mut codes);
         }
     }
     totals.print(inputs);

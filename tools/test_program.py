@@ -1,6 +1,6 @@
 #!/usr/bin/env python3
 """Tests of the built program `clearing`, byte by byte of what it reads and prints: every kind of line, every refusal that it
-can print with its place, and the order of refusals. The lines are worked out by hand from paper 01. Then `tools/sheet solve`
+can print with its place, and the order of refusals. The lines are worked out by hand from paper 01 and paper 4 of 02. Then `tools/sheet solve`
 and `run.sh` over the same program."""
 import os
 import subprocess
@@ -17,6 +17,8 @@ CLAUSES = [0x40000002, 2, 4, 0x40000002, 3, 7, 0x40000001, 7]
 OPPOSITES = [0xC0000000, 0xC0000007, 0x80000001, 0x40000001, 2, 0x40000001, 3]
 # (1 2)(1 -2)(-1 2)(-1 -2)
 ALL_FOUR = [0xC000FFFF, 0xC000FFFF, 0x80000002] + [0x40000002, 2, 4, 0x40000002, 2, 5, 0x40000002, 3, 4, 0x40000002, 3, 5]
+# (1)(2 3)(-1): the last clause is dead after one flip
+LATER_DEAD = [0xC0000000, 0xC0000004, 0x80000003, 0x40000001, 2, 0x40000002, 4, 6, 0x40000001, 3]
 
 
 def bytes_of(words):
@@ -51,6 +53,12 @@ class Program(unittest.TestCase):
         self.prints_for([1, 1, 1], OPPOSITES, 'batch 7 spent calls 1 marks 0')
         self.prints_for([2, 2, 4], ALL_FOUR, 'batch 4294967295 spent calls 4 marks 0')
         self.prints_for([3, 1, 0], HEAD + CLAUSES, 'batch 70000 spent calls 0 marks 0')
+
+    def test_dead(self):
+        self.prints_for([3, 3, 2], LATER_DEAD, 'batch 4 none calls 2 marks 0')
+        self.prints_for([3, 3, 1], LATER_DEAD, 'batch 4 spent calls 1 marks 0')
+        # with an empty clause after the first false one there is nothing to try
+        self.prints_for([3, 3, 9], LATER_DEAD + [0x40000000], 'batch 4 none calls 1 marks 0')
 
     def test_1_length(self):
         self.prints(bytes_of([3, 1, 9] + HEAD) + b'\0', 'refused 1 place 0')

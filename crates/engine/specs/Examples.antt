@@ -1,4 +1,4 @@
--- The settled examples of paper 01, proved from the definitions by one joint statement about one table.
+-- The settled examples of paper 01 and the one of paper 4 of 02, proved from the definitions by one joint statement about one table.
 use mathlib.Core.Path.{_≡_, refl}
 use mathlib.Core.Bool.{true, false}
 use mathlib.Core.List.{List, [], _∷_, map}
@@ -96,6 +96,7 @@ examples =
     ∷ row (run-of 1 0 2 opposites) (the-none 2)
     ∷ row (run-of 2 1 6 all-four) (the-none 6)
     ∷ row (run-of 2 2 5 all-four) (the-none 5)
+    ∷ row (run-of 3 3 2 (sheet 3 ((pos 1 ∷ []) ∷ (pos 2 ∷ pos 3 ∷ []) ∷ (neg 1 ∷ []) ∷ []))) (the-none 2)
     ∷ row (code-of 2 1) (0 ∷ 1 ∷ [])
     ∷ row (code-of 3 1) (0 ∷ 7 ∷ [])
     ∷ row (code-of 4 1) (0 ∷ 7 ∷ 8 ∷ 15 ∷ [])
@@ -117,7 +118,7 @@ unfolding examples ask numbers answerNumbers wordsIn
     Volume.choose Volume.volume Volume.floor
     Operations.coded? Operations.fits? codeAnswer Operations.written codeTable Operations.measured? volumeAnswer floorAnswer
     Explore.calls Explore.plus Explore.after Explore.try Explore.call Explore.explore
-    Ball.isFlipped Ball.isOpen Ball.reading Ball.true? Ball.isTrue Ball.flip Ball.isTried Ball.tried Ball.branch Ball.select Ball.skip Ball.rule Ball.ballTree Ball.ballSearch
+    Ball.isFlipped Ball.isOpen Ball.reading Ball.true? Ball.isTrue Ball.isDead Ball.flip Ball.isTried Ball.tried Ball.branch Ball.select Ball.skip Ball.rule Ball.ballTree Ball.ballSearch
     Search.blockOf Search.shortBlock Search.blocks Search.summedRadius Search.centreCount Search.centreAt
     Search.searchOf Search.ball Search.run
     Budget.whole Budget.answer

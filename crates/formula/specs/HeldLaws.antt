@@ -1,4 +1,4 @@
--- Laws of the clauses that a table holds: a test of them all, and the first that passes one, by their numbers.
+-- Laws of the clauses that a table holds, by their numbers: a test that all pass, one that none passes, and the first that passes one.
 use mathlib.Core.Path.{_≡_, refl, sym, ap, _∙_}
 use mathlib.Core.Logic.{_⊎_, inl, inr}
 use mathlib.Core.Bool.{Bool, true, false, cond, _&&_, true≢false}
@@ -6,7 +6,7 @@ use mathlib.Core.List.{List, map}
 use Prim.Native.Nat.{ℕ, zero, suc, _+_, _≤_, _<_}
 use native.Mathlib.Nat.{eq-or-lt-of-le}
 use native.Mathlib.Omega.{arith}
-use Rattle.words.specs.Lists.{every, first, span}
+use Rattle.words.specs.Lists.{some, every, first, span}
 use Rattle.words.specs.ListLaws.{and-both}
 use Rattle.formula.specs.Formula.{Clause}
 use Rattle.formula.specs.Machine.{clauseAt, held}
@@ -29,6 +29,11 @@ module _ {A : Type 0} (p : A → Bool) (f : ℕ → A) where
       go true q below (inl c) = absurd (true≢false (sym q ∙ ap (λ (x : ℕ). p (f x)) c ∙ e))
       go true q below (inr c) = below c
 
+  some-run : (i n : ℕ) → ((j : ℕ) → i ≤ j → j < i + n → p (f j) ≡ false) → some p (map f (span i n)) ≡ false
+  unfolding some span
+  some-run i zero h = refl
+  some-run i (suc n) h = rw (h i (omega arith) (omega arith)) (some-run (suc i) n (λ j l r. h j (omega arith) (omega arith)))
+
   first-run : (i n r : ℕ) (d : A) → i ≤ r → r < i + n → p (f r) ≡ true →
       ((j : ℕ) → i ≤ j → j < r → p (f j) ≡ false) → first p (map f (span i n)) d ≡ f r
   unfolding first span
@@ -49,6 +54,10 @@ module _ (k : ℕ) (cells : List ℕ) (p : Clause → Bool) where
   pub held-fails : (r : ℕ) → r < k → p (clauseAt cells r) ≡ false → every p (held k cells) ≡ false
   unfolding held
   held-fails r l = every-fails p (clauseAt cells) 0 k r (omega arith) (omega arith)
+
+  pub held-none : ((i : ℕ) → i < k → p (clauseAt cells i) ≡ false) → some p (held k cells) ≡ false
+  unfolding held
+  held-none h = some-run p (clauseAt cells) 0 k (λ i l r. h i (omega arith))
 
   pub held-first : (r : ℕ) (d : Clause) → r < k → p (clauseAt cells r) ≡ true →
       ((i : ℕ) → i < r → p (clauseAt cells i) ≡ false) → first p (held k cells) d ≡ clauseAt cells r

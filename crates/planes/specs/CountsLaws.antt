@@ -1,16 +1,16 @@
--- The laws of counts in planes: two rows move the numbers of all clauses, and the lowest lane with 0 is the first clause whose
--- number is 0.
-use mathlib.Core.Path.{_≡_, refl, sym, ap, _∙_}
-use mathlib.Core.Bool.{Bool, true, false, not, true≢false}
+-- The laws of counts in planes: two rows move the numbers of all clauses, and the lowest lane of a word in which a test is passed is
+-- the first clause that passes it.
+use mathlib.Core.Path.{_≡_, refl, sym, ap, ap₂, _∙_}
+use mathlib.Core.Bool.{Bool, true, false, not, _&&_, true≢false}
 use mathlib.Core.List.{List}
 use Prim.Native.Nat.{ℕ, _+_, _*_, _/_, _%_, _^_, _≤_, _<_}
 use native.Mathlib.Omega.{arith}
+use lib.Bits.{bitAnd}
 use lib.Dec.{eqb, ltb}
 use lib.ListN.{getD}
-use lib.Count.{trailingZeros}
+use lib.Count.{trailingZeros, trailing-le}
 use borrow.Author.Tests.{lt-ltb, le-ltb, ltb-true, ltb-false}
 use Rattle.words.specs.Lists.{every}
-use Rattle.words.specs.ListLaws.{apart}
 use Rattle.words.specs.Bits.{bit}
 use Rattle.words.specs.BitLaws.{digit, bit-zero}
 use Rattle.formula.specs.Formula.{Clause}
@@ -18,8 +18,8 @@ use Rattle.formula.specs.Counts.{holds, Steps}
 use Rattle.formula.specs.Machine.{clauseAt, held}
 use Rattle.formula.specs.HeldLaws.{held-every, held-fails}
 use Rattle.planes.specs.declared.Planes.{Planes}
-use Rattle.planes.specs.Machine.{lanes, rowWords, laneCount, rowCount, wordsOf, countAt, planesAt, Counts, FirstZero, lane, Occurs, Moved, ZerosAfter, Shifted}
-use Rattle.planes.specs.LaneLaws.{trailing-at}
+use Rattle.planes.specs.Machine.{lanes, rowWords, laneCount, rowCount, wordsOf, countIn, countAt, planesAt, Counts, Passing, First, isZero, lane, Occurs, Moved, ZerosAfter, Shifted}
+use Rattle.planes.specs.LaneLaws.{bit-and, trailing-below, trailing-at}
 
 -- ---- the lanes of a literal
 
@@ -31,27 +31,78 @@ module _ {k : ℕ} {cells occ : List ℕ} (o : Occurs k cells occ) (w i : ℕ) (
   pub lane-past : k ≤ i → i < laneCount → lane occ w i ≡ false
   lane-past h r = o .each w i l r ∙ rw (le-ltb i k h)
 
--- ---- the first clause with 0
+-- ---- the clauses of a word that pass a test
 
-module _ {k : ℕ} {cells : List ℕ} {q : ℕ} {count : Clause → ℕ} {planes : List ℕ} (s : Counts k cells q count planes) where
-  above : (i : ℕ) → i < k → (countAt planes q i ≡ 0 → ⊥) → count (clauseAt cells i) ≡ 0 → ⊥
-  above i h z e = z (s .each i h ∙ e)
-
-  -- no lane has 0
-  pub zero-none : ((i : ℕ) → i < lanes * wordsOf k → countAt planes q i ≡ 0 → ⊥) → FirstZero k cells count k
-  zero-none none =
-      record { within = omega arith; before = λ i h. above i h (none i (omega arith)); here = λ h. absurd (omega arith) }
-
-  -- the lowest lane with 0: it is no lane past the last clause, where the number is 1
-  pub zero-lowest : (r : ℕ) → r < lanes * wordsOf k → countAt planes q r ≡ 0 →
-      ((i : ℕ) → i < r → countAt planes q i ≡ 0 → ⊥) → FirstZero k cells count r
-  zero-lowest r h z none = go (ltb r k) refl
+module _ {k : ℕ} {cells : List ℕ} {test : Clause → Bool} {w z : ℕ} (p : Passing k cells test w z) where
+  -- a lane that is set belongs to a clause
+  lane-used : (i : ℕ) → i / lanes ≡ w → bit z (i % lanes) ≡ true → i < k
+  lane-used i e s = go (ltb i k) refl
     where
-      go : (b : Bool) → ltb r k ≡ b → FirstZero k cells count r
-      go false e = apart (sym z ∙ s .rest r (ltb-false r k e) h)
-      go true e =
-          let l : r < k = ltb-true r k e in
-          record { within = omega arith; before = λ i u. above i (omega arith) (none i u); here = λ u. sym (s .each r l) ∙ z }
+      go : (b : Bool) → ltb i k ≡ b → i < k
+      go true h = ltb-true i k h
+      go false h = absurd (true≢false (sym s ∙ p .rest i (ltb-false i k h) e))
+
+  -- lanes of the word below lane t that are not set belong to clauses that fail
+  fails-below : (t : ℕ) → t ≤ lanes → ((j : ℕ) → j < t → bit z j ≡ false) →
+      (i : ℕ) → lanes * w ≤ i → i < lanes * w + t → i < k → test (clauseAt cells i) ≡ false
+  fails-below t r clear i l h inside = sym (p .each i inside (omega arith)) ∙ clear (i % lanes) (omega arith)
+
+  -- With no lane set, the first clause from the next word on is the first from this word on;
+  pub passing-none : z ≡ 0 → (r : ℕ) → First (lanes * (w + 1)) k cells test r → First (lanes * w) k cells test r
+  passing-none e r f = record { within = f .within; before = λ i l h. go i l h (ltb i (lanes * (w + 1))) refl; here = f .here }
+    where
+      go : (i : ℕ) → lanes * w ≤ i → i < r → (b : Bool) → ltb i (lanes * (w + 1)) ≡ b → test (clauseAt cells i) ≡ false
+      go i l h true q =
+          let near : i < lanes * (w + 1) = ltb-true i (lanes * (w + 1)) q in
+          let inside : i < k = omega (arith, f .within) in
+          fails-below lanes (omega arith) (λ j u. rw e (bit-zero j)) i l (omega arith) inside
+      go i l h false q = f .before i (ltb-false i (lanes * (w + 1)) q) h
+
+  -- otherwise it is the clause of the lowest lane that is set.
+  pub passing-lowest : (z ≡ 0 → ⊥) → z < 2 ^ lanes →
+      (lanes * w + trailingZeros lanes z < k) × First (lanes * w) k cells test (lanes * w + trailingZeros lanes z)
+  passing-lowest some fits =
+      let t = trailingZeros lanes z in
+      let low = trailing-at lanes z some fits in
+      let r = lanes * w + t in
+      let word : r / lanes ≡ w = omega arith in
+      let lane′ : r % lanes ≡ t = omega arith in
+      let here : bit z (r % lanes) ≡ true = ap (bit z) lane′ ∙ low .1 in
+      let used : r < k = lane-used r word here in (
+        used,
+        record {
+          within = omega arith;
+          before = λ i l h. fails-below t (trailing-le lanes z) (trailing-below lanes z) i l h (omega arith);
+          here = λ l. sym (p .each r l word) ∙ here;
+        },
+      )
+
+-- no clause is left: none passes
+pub first-end : {i k : ℕ} {cells : List ℕ} {test : Clause → Bool} → k ≤ i → First i k cells test k
+first-end e = record { within = omega arith; before = λ j l h. absurd (omega arith); here = λ h. absurd (omega arith) }
+
+-- the clauses whose number is 0
+pub passing-zeros : {k : ℕ} {cells : List ℕ} {q : ℕ} {count : Clause → ℕ} {planes : List ℕ} → Counts k cells q count planes →
+    (w z : ℕ) → w < wordsOf k → ((j : ℕ) → j < lanes → bit z j ≡ eqb (countIn (planesAt planes (q + w)) j) 0) →
+    Passing k cells (isZero count) w z
+unfolding countAt
+passing-zeros {q = q} {planes = planes} s w z l zeros =
+    record {
+      each = λ i h e. here i e ∙ ap (λ (n : ℕ). eqb n 0) (s .each i h);
+      rest = λ i h e. here i e ∙ ap (λ (n : ℕ). eqb n 0) (s .rest i h (omega arith));
+    }
+  where
+    here : (i : ℕ) → i / lanes ≡ w → bit z (i % lanes) ≡ eqb (countAt planes q i) 0
+    here i e = rw e (zeros (i % lanes) (omega arith))
+
+-- those that pass two tests
+pub passing-both : {k : ℕ} {cells : List ℕ} {test test′ : Clause → Bool} {w z z′ : ℕ} → Passing k cells test w z →
+    Passing k cells test′ w z′ → Passing k cells (λ c. test c && test′ c) w (bitAnd z z′)
+passing-both {z = z} {z′ = z′} p p′ =
+    record {
+      each = λ i h e. bit-and z z′ (i % lanes) ∙ ap₂ _&&_ (p .each i h e) (p′ .each i h e);
+      rest = λ i h e. bit-and z z′ (i % lanes) ∙ ap₂ _&&_ (p .rest i h e) (p′ .rest i h e);
+    }
 
 -- ---- two rows
 
@@ -95,38 +146,29 @@ module _ {k q up down : ℕ} {cells occ from : List ℕ} {count next : Clause �
   apart-past i h r = rw (lane-past o down i (rows .1) h r, lane-past o up i (rows .0) h r) (omega arith)
 
   abbrev isAbove : Clause → Bool
-  isAbove c = not (eqb (next c) 0)
+  isAbove c = not (isZero next c)
 
-  module _ (w z : ℕ) (zeros : LeavesZero q up down occ from w z) where
+  -- the clauses that are left with 0
+  module _ (w z : ℕ) (l : w < wordsOf k) (zeros : LeavesZero q up down occ from w z) where
     lane-tells : (i n : ℕ) → i / lanes ≡ w → digit (lane occ up i) + digit (lane occ down i) ≤ 1 →
         n + digit (lane occ down i) ≡ countAt from q i + digit (lane occ up i) → bit z (i % lanes) ≡ eqb n 0
     unfolding lane countAt
     lane-tells i n e = rw (sym e) at (zeros .each (i % lanes) n (omega arith))
 
-    lane-above : (i : ℕ) → i / lanes ≡ w → i < k → isAbove (clauseAt cells i) ≡ not (bit z (i % lanes))
-    lane-above i e h = ap not (sym (lane-tells i (next (clauseAt cells i)) e (apart-held i h) (sum-held i h)))
+    passing-after : Passing k cells (isZero next) w z
+    passing-after =
+        record {
+          each = λ i h e. lane-tells i (next (clauseAt cells i)) e (apart-held i h) (sum-held i h);
+          rest = λ i h e. lane-tells i 1 e (apart-past i h (omega arith)) (sum-past i h (omega arith));
+        }
 
-    -- a lane past the last clause is not left with 0
-    lane-used : (i : ℕ) → i / lanes ≡ w → i < lanes * wordsOf k → bit z (i % lanes) ≡ true → i < k
-    lane-used i e l t = go (ltb i k) refl
-      where
-        go : (b : Bool) → ltb i k ≡ b → i < k
-        go true h = ltb-true i k h
-        go false h =
-            let past : k ≤ i = ltb-false i k h in
-            absurd (true≢false (sym t ∙ lane-tells i 1 e (apart-past i past (omega arith)) (sum-past i past l)))
-
-    pub zero-after : w < wordsOf k → (z ≡ 0 → ⊥) → z < 2 ^ lanes → every isAbove (held k cells) ≡ false
-    zero-after l some fits =
-        let low = trailing-at lanes z some fits in
-        let i = lanes * w + trailingZeros lanes z in
-        let word : i / lanes ≡ w = omega arith in
-        let lane′ : i % lanes ≡ trailingZeros lanes z = omega arith in
-        let set′ : bit z (i % lanes) ≡ true = ap (bit z) lane′ ∙ low .1 in
-        let used : i < k = lane-used i word (omega arith) set′ in
-        held-fails k cells isAbove i used (lane-above i word used ∙ ap not set′)
+    pub zero-after : (z ≡ 0 → ⊥) → z < 2 ^ lanes → every isAbove (held k cells) ≡ false
+    zero-after some fits =
+        let (used, f) = passing-lowest passing-after some fits in
+        held-fails k cells isAbove _ used (ap not (f .here used))
 
   pub above-after : ((w : ℕ) → w < wordsOf k → LeavesZero q up down occ from w 0) → every isAbove (held k cells) ≡ true
   above-after zeros =
       held-every k cells isAbove (λ i h.
-      lane-above (i / lanes) 0 (zeros (i / lanes) (omega arith)) i refl h ∙ ap not (bit-zero (i % lanes)))
+      let l : i / lanes < wordsOf k = omega arith in
+      ap not (sym (passing-after (i / lanes) 0 l (zeros (i / lanes) l) .each i h refl) ∙ bit-zero (i % lanes)))

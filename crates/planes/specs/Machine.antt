@@ -1,7 +1,7 @@
 -- What the machine's words hold: two numbers of each clause crosswise, 64 clauses to a word, whatever is counted; and which clauses
 -- hold a literal.
 use mathlib.Core.Path.{_≡_}
-use mathlib.Core.Bool.{Bool, not, _&&_, _||_}
+use mathlib.Core.Bool.{Bool, true, false, not, _&&_, _||_}
 use mathlib.Core.List.{List}
 use Prim.Native.Nat.{ℕ, zero, suc, _+_, _-_, _*_, _/_, _%_, _≤_, _<_}
 use lib.Dec.{eqb, leb, ltb}
@@ -76,11 +76,31 @@ pub record Counts (k : ℕ) (cells : List ℕ) (q : ℕ) (count : Clause → ℕ
   pub each : (i : ℕ) → i < k → countAt planes q i ≡ count (clauseAt cells i)
   pub rest : (i : ℕ) → k ≤ i → i < lanes * wordsOf k → countAt planes q i ≡ 1
 
--- r is the number of the first clause whose count is 0, or k where there is none.
-pub record FirstZero (k : ℕ) (cells : List ℕ) (count : Clause → ℕ) (r : ℕ) : Type 0 where
+-- ---- clauses that pass a test
+
+-- The lanes of z are those of the clauses of word w that pass the test.
+pub record Passing (k : ℕ) (cells : List ℕ) (test : Clause → Bool) (w z : ℕ) : Type 0 where
+  pub each : (i : ℕ) → i < k → i / lanes ≡ w → bit z (i % lanes) ≡ test (clauseAt cells i)
+  pub rest : (i : ℕ) → k ≤ i → i / lanes ≡ w → bit z (i % lanes) ≡ false
+
+-- r is the number of the first clause from number i on that passes the test, or k where none does.
+pub record First (i k : ℕ) (cells : List ℕ) (test : Clause → Bool) (r : ℕ) : Type 0 where
   pub within : r ≤ k
-  pub before : (i : ℕ) → i < r → count (clauseAt cells i) ≡ 0 → ⊥
-  pub here : r < k → count (clauseAt cells r) ≡ 0
+  pub before : (j : ℕ) → i ≤ j → j < r → test (clauseAt cells j) ≡ false
+  pub here : r < k → test (clauseAt cells r) ≡ true
+
+-- a clause's number is 0, and two numbers of it are
+abbrev pub isZero : (Clause → ℕ) → Clause → Bool
+isZero count c = eqb (count c) 0
+
+abbrev pub bothZero : (Clause → ℕ) → (Clause → ℕ) → Clause → Bool
+bothZero count count′ c = isZero count c && isZero count′ c
+
+-- What a pass over all clauses answers: more than k where some clause has both numbers 0, and otherwise the number of the first one
+-- with its first number 0, if there is one.
+pub data Picked (k : ℕ) (cells : List ℕ) (count count′ : Clause → ℕ) (r : ℕ) : Type 0 where
+  both : (i : ℕ) → i < k → bothZero count count′ (clauseAt cells i) ≡ true → k < r → Picked k cells count count′ r
+  lowest : First 0 k cells (bothZero count count′) k → First 0 k cells (isZero count) r → Picked k cells count count′ r
 
 -- ---- the clauses that hold a literal
 

@@ -1,20 +1,17 @@
--- The laws of planes: `moved` counts one up or down, the planes of a slot stored in their array, and the lowest lane with count 0.
+-- The laws of planes: `moved` counts one up or down, and the planes of a slot stored in their array.
 use mathlib.Core.Path.{_≡_, refl, sym, _∙_}
-use mathlib.Core.Bool.{Bool, true, false, not, xor, _&&_, _||_, true≢false}
+use mathlib.Core.Bool.{Bool, true, false, not, xor, _&&_, _||_}
 use mathlib.Core.List.{List}
-use Prim.Native.Nat.{ℕ, _+_, _-_, _*_, _/_, _%_, _^_, _≤_, _<_}
+use Prim.Native.Nat.{ℕ, _+_, _-_, _*_, _%_, _≤_, _<_}
 use native.Mathlib.Omega.{arith}
-use lib.Dec.{eqb, ltb}
+use lib.Dec.{eqb}
 use lib.ListN.{length, getD, set, length-set}
 use lib.Seq.{getD-set-same, getD-set-other}
-use lib.Count.{trailingZeros, trailing-le}
-use borrow.Author.Tests.{eq-eqb, ne-eqb, eqb-true, ltb-true, ltb-false}
+use borrow.Author.Tests.{ne-eqb}
 use borrow.Author.Count.{below-more}
-use Rattle.words.specs.Bits.{bit}
-use Rattle.words.specs.BitLaws.{bit-zero, digit, same-test}
+use Rattle.words.specs.BitLaws.{digit, same-test}
 use Rattle.planes.specs.declared.Planes.{Planes}
-use Rattle.planes.specs.Machine.{lanes, rowWords, firstCounter, secondCounter, slots, planeCells, number, countIn, planesAt, countAt, Stored}
-use Rattle.planes.specs.LaneLaws.{trailing-below, trailing-at}
+use Rattle.planes.specs.Machine.{rowWords, firstCounter, secondCounter, slots, planeCells, number, planesAt, Stored}
 
 -- ---- one more or one less
 
@@ -191,40 +188,3 @@ words-step {P} {Q} {all} {w} {xs} {ys} {zs} {p} {q} f l r a here b here′ =
   where
     other : (s : ℕ) → s < slots → (s ≡ firstCounter + w → ⊥) → (s ≡ secondCounter + w → ⊥) → planesAt zs s ≡ planesAt xs s
     other s h d d′ = b .other s h d′ ∙ a .other s h d
-
--- ---- the lowest lane with count 0
-
--- No lane of the counter q before word w has count 0, and z has the lanes of word w that have.
-module _ (xs : List ℕ) (q w z : ℕ) (before : (i : ℕ) → i < lanes * w → countAt xs q i ≡ 0 → ⊥)
-    (zeros : (j : ℕ) → j < lanes → bit z j ≡ eqb (countIn (planesAt xs (q + w)) j) 0) where
-  lane-zero : (j : ℕ) → j < lanes → bit z j ≡ eqb (countAt xs q (lanes * w + j)) 0
-  unfolding countAt
-  lane-zero j l =
-      let high : (lanes * w + j) / lanes ≡ w = omega arith in
-      let low : (lanes * w + j) % lanes ≡ j = omega arith in
-      rw (high, low) (zeros j l)
-
-  -- no lane of z below t is set
-  lanes-above : (t : ℕ) → t ≤ lanes → ((j : ℕ) → j < t → bit z j ≡ false) →
-      (i : ℕ) → i < lanes * w + t → countAt xs q i ≡ 0 → ⊥
-  lanes-above t r clear i l = go (ltb i (lanes * w)) refl
-    where
-      go : (b : Bool) → ltb i (lanes * w) ≡ b → countAt xs q i ≡ 0 → ⊥
-      go true h e = before i (ltb-true i (lanes * w) h) e
-      go false h e =
-          let past : lanes * w ≤ i = ltb-false i (lanes * w) h in
-          let j = i - lanes * w in
-          let back : lanes * w + j ≡ i = omega arith in
-          let on : bit z j ≡ true = lane-zero j (omega arith) ∙ rw back (eq-eqb (countAt xs q i) 0 e) in
-          true≢false (sym on ∙ clear j (omega arith))
-
-  pub zeros-none : z ≡ 0 → (i : ℕ) → i < lanes * (w + 1) → countAt xs q i ≡ 0 → ⊥
-  zeros-none e i l = lanes-above lanes (omega arith) (λ j h. rw e (bit-zero j)) i (omega arith)
-
-  pub zeros-lowest : (z ≡ 0 → ⊥) → z < 2 ^ lanes →
-      (trailingZeros lanes z < lanes) × (countAt xs q (lanes * w + trailingZeros lanes z) ≡ 0)
-      × ((i : ℕ) → i < lanes * w + trailingZeros lanes z → countAt xs q i ≡ 0 → ⊥)
-  zeros-lowest some fits =
-      let low = trailingZeros lanes z in
-      let t = trailing-at lanes z some fits in
-      (t .0, eqb-true _ 0 (sym (lane-zero low (t .0)) ∙ t .1), lanes-above low (trailing-le lanes z) (trailing-below lanes z))

@@ -8,7 +8,7 @@ ghost use lib.ListN.{length};
 ghost use Rattle.words.specs.Bits.{bit, width};
 ghost use Rattle.formula.specs.Formula.{lengthLimit, Clause};
 ghost use Rattle.formula.specs.Machine.{cellCount, lengthAt, literalAt, clauseAt};
-ghost use Rattle.planes.specs.Machine.{lanes, rowWords, laneCount, rowCount, occurrenceCells, firstCounter, secondCounter, slots, planeCells, countIn, planesAt, Counts, FirstZero, Readable, Occurs, Marked, Moved, ZerosAfter, Stored, ShiftedSlot, Shifted, AboveZero, Summed, Starts};
+ghost use Rattle.planes.specs.Machine.{lanes, rowWords, laneCount, rowCount, occurrenceCells, firstCounter, secondCounter, slots, planeCells, countIn, planesAt, Counts, Picked, Readable, Occurs, Marked, Moved, ZerosAfter, Stored, ShiftedSlot, Shifted, AboveZero, Summed, Starts};
 
 // The sizes of specs/Machine.antt: lanes of a word, words of a row, cells of the occurrence table,
 // slots of two counters, and cells of an array of planes.
@@ -245,22 +245,27 @@ pub fn shift(
     }
 }
 
-// The number of the first clause whose first number is 0, or k where there is none.
-pub fn first_zero(planes: &[u64; PLANES], k: usize) -> usize
+// More than k where some clause has both numbers 0; else the number of the first clause whose first
+// number is 0, or k. From the last word to the first, so that the first clause is met last.
+pub fn pick(planes: &[u64; PLANES], k: usize) -> usize
     requires { ⌜ k ≤ laneCount ⌝ }
-    ensures { λ r. ⌜ ((cells : List ℕ) (count : Clause → ℕ) → Counts k cells firstCounter count (now (planes .entry)) →
-        FirstZero k cells count r) ⌝ }
+    ensures { λ r. ⌜ ((cells : List ℕ) (count count′ : Clause → ℕ) → Counts k cells firstCounter count (now (planes .entry)) →
+        Counts k cells secondCounter count′ (now (planes .entry)) → Picked k cells count count′ r) ⌝ }
 {
-    let words = (k + (LANES - 1)) / LANES;
-    let mut w: usize = 0;
-    while w < words {
+    let mut first = k;
+    let mut w = (k + (LANES - 1)) / LANES;
+    while 0 < w {
+        w -= 1;
         let zeros = slot_at(planes, FIRST + w).zeros();
-        if zeros != 0 {
-            return LANES * w + u64::trailing_zeros(zeros) as usize;
+        let both = zeros & slot_at(planes, SECOND + w).zeros();
+        if both != 0 {
+            return k + 1;
         }
-        w += 1;
+        if zeros != 0 {
+            first = LANES * w + u64::trailing_zeros(zeros) as usize;
+        }
     }
-    k
+    first
 }
 
 // Whether every first number would be above 0 after `shift` by these rows: the last level of a

@@ -1,9 +1,9 @@
 -- The search in one ball (paper 01, "The search in one ball"; source 000, section 2.2). Assignments are numbers of any width.
-use mathlib.Core.Bool.{Bool, false, not, _&&_}
+use mathlib.Core.Bool.{Bool, false, cond, not, _&&_}
 use mathlib.Core.List.{List, []}
 use Prim.Native.Nat.{ℕ}
 use lib.Dec.{ltb}
-use Rattle.words.specs.Lists.{every, keep, count, first}
+use Rattle.words.specs.Lists.{some, every, keep, count, first}
 use Rattle.words.specs.Bits.{bit, toggle}
 use Rattle.formula.specs.Formula.{Literal, Clause, bitOf, met}
 use Rattle.tree.specs.Explore.{Outcome, Tree, explore}
@@ -38,6 +38,10 @@ true? r = ltb 0 (r .met)
 unfoldable pub isTrue : State → Clause → Bool
 isTrue s c = true? (reading s c)
 
+-- A clause is dead: it is false, and each of its variables is flipped on this path.
+unfoldable pub isDead : State → Clause → Bool
+isDead s c = not (isTrue s c) && every (isFlipped s) c
+
 -- ---- a flip
 
 -- the literal's variable flipped
@@ -70,17 +74,17 @@ select cs s = first (λ c. not (isTrue s c)) cs []
 unfoldable pub skip : List Clause → State → Literal → Bool
 skip cs s l = false
 
--- The engine's rule.
+-- The engine's rule: no literal where some clause is dead.
 unfoldable pub rule : List Clause → Rule
-rule cs = branch (select cs) (skip cs)
+rule cs s = cond (some (isDead s) cs) [] (branch (select cs) (skip cs) s)
 
 -- ---- the tree of a ball
 
--- The four steps of a call in paper 01:
+-- The four steps of a call in paper 01, the third as paper 4 of 02 amends it:
 -- 1. all clauses true: found, with this assignment: `goal`, `out`;
 -- 2. else, no flip left: no: `explore` at depth 0 makes no move;
--- 3. else the first false clause, and no if each of its variables is flipped: `select`, and `rule` gives no literal;
--- 4. else each of its literals in order whose variable is not flipped: flip it and call with one flip less: `moves`, `move`, `try`.
+-- 3. else, some clause dead: no: `rule` gives no literal; else the first false clause is taken: `select`;
+-- 4. and each of its literals in order whose variable is not flipped: flip it and call with one flip less: `moves`, `move`, `try`.
 unfoldable pub ballTree : List Clause → Rule → Tree State Literal
 ballTree cs rule = record { goal = λ s. every (isTrue s) cs; out = λ s. s .assignment; moves = rule; move = flip }
 

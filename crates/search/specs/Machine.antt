@@ -55,11 +55,11 @@ pub record Begins (n k : ℕ) (occ planes : List ℕ) : Type 0 where
   pub size : length planes ≡ planeCells
   pub shows : (cells : List ℕ) → Table n k cells → Occurs k cells occ → Shows k cells (centred 0) planes
 
--- r is the number of the clause whose literals the rule tries, or k where all clauses are true.
+-- r is the number of the clause whose literals the rule tries, k where all clauses are true, or more where some clause is dead.
 pub record Chosen (k : ℕ) (cells : List ℕ) (s : State) (r : ℕ) : Type 0 where
-  pub within : r ≤ k
   pub all : r ≡ k → every (isTrue s) (held k cells) ≡ true
-  pub some : r < k → every (isTrue s) (held k cells) ≡ false
+  pub some : (r ≡ k → ⊥) → every (isTrue s) (held k cells) ≡ false
+  pub dead : k < r → rule (held k cells) s ≡ []
   pub literals : r < k → rule (held k cells) s ≡ tried (skip (held k cells)) s (clauseAt cells r)
   pub failing : r < k → isTrue s (clauseAt cells r) ≡ false
 

@@ -18,12 +18,13 @@ use Rattle.formula.specs.TableLaws.{table-row, row-cons, row-end, row-in, claus
 use Rattle.tree.specs.declared.Found.{Found}
 use Rattle.tree.proofs.Found.{the-type}
 use Rattle.tree.specs.declared.Found.the-variants.{Clear, None, Spent}
-use Rattle.tree.specs.Explore.{Outcome, try}
+use Rattle.tree.specs.Explore.{try}
 use Rattle.tree.specs.Budget.{Answer, clear, spent}
 use Rattle.tree.specs.BudgetLaws.{settle, onward, settle-none, settle-nil, settle-cons, onward-none, onward-stops, none-made}
 use Rattle.tree.specs.Machine.{answerIn}
 use Rattle.search.specs.Ball.{State, flip, isTried, tried, skip, rule}
-use Rattle.search.specs.RuleLaws.{tried-fresh, false-unmet}
+use Rattle.search.specs.ReadingLaws.{false-unmet}
+use Rattle.search.specs.RuleLaws.{tried-fresh}
 use Rattle.search.specs.CallLaws.{search-spent, search-clear, search-none, search-literals, try-tried}
 use Rattle.search.specs.Machine.{Tryable, Chosen, Settles, Trying, Turn, Attempting, LastAttempt, callFrom, attemptFrom, literalsFrom}
 
@@ -40,21 +41,28 @@ module _ (k : ℕ) (cells : List ℕ) (left : ℕ) (s : State) (A c : ℕ) where
     in-clear e = search-clear A c (held k cells) (rule (held k cells)) left s enough (f .all e)
 
     module _ (more : r ≡ k → ⊥) where
-      inside : r < k
-      inside = omega (arith, f .within)
-
       pub in-none : left ≡ 0 → settle A c (callFrom k cells left s) ≡ Answer.none (c + 1)
       unfolding callFrom
-      in-none = search-none A c (held k cells) (rule (held k cells)) left s enough (f .some inside)
+      in-none = search-none A c (held k cells) (rule (held k cells)) left s enough (f .some more)
 
-      pub in-literals : (left ≡ 0 → ⊥) →
-          settle A c (callFrom k cells left s) ≡ settle A (c + 1) (literalsFrom k cells left s (clauseAt cells r))
-      unfolding callFrom literalsFrom attemptFrom tried
-      in-literals e =
-          let below : Literal → Outcome = λ l. callFrom k cells (left - 1) (flip s l) in
-          search-literals A c (held k cells) (rule (held k cells)) left s (f .some inside) (omega arith)
-          ∙ ap (λ (ls : List Literal). settle A (c + 1) (try below ls)) (f .literals inside)
-          ∙ ap (settle A (c + 1)) (try-tried below (isTried (skip (held k cells)) s) (clauseAt cells r))
+      module _ (flips : left ≡ 0 → ⊥) where
+        -- otherwise it is what the rule's literals give: none where a clause is dead
+        in-rule : (ls : List Literal) → rule (held k cells) s ≡ ls →
+            settle A c (callFrom k cells left s) ≡ settle A (c + 1) (try (λ l. callFrom k cells (left - 1) (flip s l)) ls)
+        unfolding callFrom
+        in-rule ls e =
+            search-literals A c (held k cells) (rule (held k cells)) left s (f .some more) (omega arith)
+            ∙ ap (λ (tries : List Literal). settle A (c + 1) (try (λ l. callFrom k cells (left - 1) (flip s l)) tries)) e
+
+        pub in-dead : k < r → settle A c (callFrom k cells left s) ≡ Answer.none (c + 1)
+        in-dead e = in-rule [] (f .dead e) ∙ settle-nil A (c + 1) _ (omega arith)
+
+        pub in-literals : r < k →
+            settle A c (callFrom k cells left s) ≡ settle A (c + 1) (literalsFrom k cells left s (clauseAt cells r))
+        unfolding literalsFrom attemptFrom tried
+        in-literals e =
+            in-rule _ (f .literals e)
+            ∙ ap (settle A (c + 1)) (try-tried _ (isTried (skip (held k cells)) s) (clauseAt cells r))
 
   -- ---- its literals
 

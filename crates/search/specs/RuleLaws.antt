@@ -11,17 +11,17 @@ use lib.Dec.{eqb, leb}
 use lib.ListN.{length}
 use borrow.Author.Tests.{eqb-true, eqb-false, leb-true, leb-false, not-true}
 use Rattle.words.specs.Lists.{In, some, every, first}
-use Rattle.words.specs.ListLaws.{every-in, some-in, in-some, keep-in, in-keep, length-keep, first-has, and-right, refute}
+use Rattle.words.specs.ListLaws.{every-in, some-in, keep-in, in-keep, length-keep, first-has, and-right, refute}
 use Rattle.words.specs.Bits.{bit, toggle, distance}
 use Rattle.words.specs.BitLaws.{bit-toggle-same, bit-toggle-other, toggle-lt, distance-toggle, distance-zero}
 use Rattle.formula.specs.Formula.{Literal, Clause, bitOf, met, someMet, allTrue}
 use Rattle.tree.specs.Explore.{found, calls, powers}
-use Rattle.search.specs.Ball.{State, isTrue, isFlipped, flip, Rule, isTried, tried, branch, select, skip, rule, ballTree, ballSearch}
+use Rattle.search.specs.Ball.{State, isTrue, isDead, isFlipped, flip, Rule, isTried, tried, branch, select, skip, rule, ballTree, ballSearch}
 use Rattle.search.specs.Run.{longest}
-use Rattle.search.specs.ReadingLaws.{reading-true}
+use Rattle.search.specs.ReadingLaws.{reading-true, false-unmet, dead-false, dead-flipped}
 use Rattle.tree.specs.TreeLaws.{Finds, explore-gives, explore-hit, explore-calls}
 
--- A goal of a ball's tree is a model: `reading-true` is the one law of readings that is cited here.
+-- A goal of a ball's tree is a model: the theorems on one ball cite no other law of readings.
 pub goal-model : (s : State) (cs : List Clause) → every (isTrue s) cs ≡ allTrue (s .assignment) cs
 unfolding allTrue
 goal-model s cs = λ i. every (λ c. reading-true s c i) cs
@@ -169,12 +169,29 @@ fails p (x ∷ xs) e = go (λ e′. fails p xs e′) (p x) e
     go below true e′ = below e′
     go below false e′ = refl
 
--- a literal of a false clause is not met
-pub false-unmet : (s : State) (c : Clause) → isTrue s c ≡ false → (l : Literal) → In l c → met (s .assignment) l ≡ false
+-- a flipped literal of a false clause is met by no assignment that agrees with the flipped variables
+flipped-unmet : (s : State) (c : Clause) → isTrue s c ≡ false → (w : ℕ) → Agrees s w → (l : Literal) → In l c →
+    isFlipped s l ≡ true → met w l ≡ false
+unfolding Agrees isFlipped
+flipped-unmet s c e w a l i f =
+    refute (met w l) (λ m. differs (s .assignment) w l (false-unmet s c e l i) m (sym (a (bitOf l) f)))
+
+-- A dead clause is true under no assignment that agrees with the flipped variables.
+pub dead-lost : (s : State) (c : Clause) → isDead s c ≡ true → (w : ℕ) → Agrees s w → someMet w c ≡ false
 unfolding someMet
-false-unmet s c e l i =
-    let m = s .assignment in
-    refute (met m l) (λ q. true≢false (sym (in-some (met m) c l i q) ∙ sym (reading-true s c) ∙ e))
+dead-lost s c e w a =
+    refute (some (met w) c) (λ q.
+    let (l, i, m) = some-in (met w) c q in
+    true≢false (sym m ∙ flipped-unmet s c (dead-false s c e) w a l i (dead-flipped s c e l i)))
+
+-- The engine's rule: no literal where some clause is dead, and otherwise those of the clause selected.
+pub rule-dead : (cs : List Clause) (s : State) → some (isDead s) cs ≡ true → rule cs s ≡ []
+unfolding rule
+rule-dead cs s e = rw e
+
+pub rule-tried : (cs : List Clause) (s : State) → some (isDead s) cs ≡ false → rule cs s ≡ tried (skip cs) s (select cs s)
+unfolding rule branch
+rule-tried cs s e = rw e
 
 module _ (n : ℕ) (cs : List Clause) (known : Known n cs) where
   pub branch-lawful : (select : State → Clause) (skip : State → Literal → Bool) →
@@ -191,7 +208,7 @@ module _ (n : ℕ) (cs : List Clause) (known : Known n cs) where
             let (l, i, m) = some-in (met w) (select s) (every-in (someMet w) cs model (select s) (f .chosen)) in
             let unskipped : skip s l ≡ false = refute (skip s l) (λ e. true≢false (sym m ∙ f .spared w model a l i e)) in
             let still : isFlipped s l ≡ false =
-            refute (isFlipped s l) (λ e. unfold Agrees isFlipped in differs (s .assignment) w l (unmet l i) m (sym (a (bitOf l) e))) in
+            refute (isFlipped s l) (λ e. true≢false (sym m ∙ flipped-unmet s (select s) (f .failing) w a l i e)) in
             (l, in-keep (isTried skip s) (select s) l i (tries skip s l unskipped still), m);
       }
     where
@@ -214,21 +231,35 @@ module _ (n : ℕ) (cs : List Clause) (known : Known n cs) where
         spared = λ w model a l i′ e′. absurd (false≢true e′);
       }
 
+  -- Where a clause is dead no model agrees with the flipped variables, and no literal is owed.
+  dead-branches : (k : ℕ) (s : State) → some (isDead s) cs ≡ true → Branches n k cs s []
+  unfolding allTrue
+  dead-branches k s e =
+      record {
+        few = omega arith;
+        known = λ l i. absurd (List·Memᴰ·not-nil i);
+        unmet = λ l i. absurd (List·Memᴰ·not-nil i);
+        fresh = λ l i. absurd (List·Memᴰ·not-nil i);
+        hits = λ w model a.
+            let (c, i, dead) = some-in (isDead s) cs e in
+            absurd (true≢false (sym (every-in (someMet w) cs model c i) ∙ dead-lost s c dead w a));
+      }
+
   -- The engine's rule is lawful.
   pub rule-lawful : Lawful n (longest cs) cs (rule cs)
-  unfolding rule
-  rule-lawful = branch-lawful (select cs) (skip cs) rule-fair
+  unfolding Lawful branch
+  rule-lawful s g = go (some (isDead s) cs) refl
+    where
+      go : (b : Bool) → some (isDead s) cs ≡ b → Branches n (longest cs) cs s (rule cs s)
+      go true e = rw (rule-dead cs s e) (dead-branches (longest cs) s e)
+      go false e = rw (rule-tried cs s e) (branch-lawful (select cs) (skip cs) rule-fair s g)
 
--- what the machine cites of the rule: the literals that are tried are those of the clause selected, which is the first that is false
-pub rule-tried : (cs : List Clause) (s : State) → rule cs s ≡ tried (skip cs) s (select cs s)
-unfolding rule branch
-rule-tried cs s = refl
-
+-- what the machine cites of the clause selected, and of a literal of it
 pub select-first : (cs : List Clause) (s : State) → select cs s ≡ first (λ c. not (isTrue s c)) cs []
 unfolding select
 select-first cs s = refl
 
--- a literal is tried where its variable is not flipped
+-- a literal of it is tried where its variable is not flipped
 pub tried-unflipped : (cs : List Clause) (s : State) (l : Literal) → isTried (skip cs) s l ≡ not (isFlipped s l)
 unfolding isTried skip
 tried-unflipped cs s l = refl

@@ -82,7 +82,7 @@ pub fn call(
         let model = at.assignment;
         return Found::Clear(model, calls + 1);
     }
-    if left == 0 {
+    if left == 0 || k < clause {
         return Found::None(calls + 1);
     }
     if left == 1 {

@@ -21,12 +21,13 @@ pub fn start(occ: &[u64; OCCURRENCES], n: u32, k: usize) -> [u64; PLANES]
     planes::start(occ, n, k)
 }
 
-// The number of the clause whose literals a call tries, or k where all clauses are true.
+// The number of the clause whose literals a call tries, k where all clauses are true, or more where
+// some clause is dead, with no literal met and none open.
 pub fn choose(planes: &[u64; PLANES], k: usize) -> usize
     requires { ⌜ k ≤ laneCount ⌝ }
     ensures { λ r. ⌜ ((cells : List ℕ) (s : State) → Shows k cells s (now (planes .entry)) → Chosen k cells s r) ⌝ }
 {
-    planes::first_zero(planes, k)
+    planes::pick(planes, k)
 }
 
 // The planes after the flip of a literal that is open: its opposite, met before, is flipped now, so

@@ -72,7 +72,7 @@ returns c =
     let fits : z < 2 ^ lanes = search needs in
     record {
       answer = λ cells count next o s steps.
-          sym (zero-after (pre .0) (pre .1) o s steps (at .loop .w) z (lanes-of (c .before)) (omega arith) (c .if1 .taken) fits);
+          sym (zero-after (pre .0) (pre .1) o s steps (at .loop .w) z (omega arith) (lanes-of (c .before)) (c .if1 .taken) fits);
     }
 
 add-w : tie.Need-add-w Inv-loop μ-loop

@@ -3,11 +3,12 @@
 -- call nine more, and for the loop over its at most eight literals one more for each, which the loop itself counts down; each literal
 -- tried makes a call with one flip less.
 use mathlib.Core.Path.{_≡_, refl, sym, ap, _∙_}
+use mathlib.Core.Logic.{⊎-elim}
 use mathlib.Core.Bool.{true}
 use Prim.Native.Nat.{ℕ, _+_, _-_, _*_, _<_}
 use native.Mathlib.Nat.{pos-of-ne-zero}
 use native.Mathlib.Omega.{arith}
-use borrow.Author.Tests.{not-true, not-false, leb-true, leb-false}
+use borrow.Author.Tests.{not-true, not-false, leb-true, leb-false, ltb-true, ltb-false}
 use borrow.Author.Needs.{needs}
 use borrow.Fn.Kinds.{In}
 use borrow.Fn.PlainCycle.{Measures, is, falls, and}
@@ -20,7 +21,7 @@ use Rattle.tree.specs.Budget.{Answer}
 use Rattle.tree.specs.BudgetLaws.{settle}
 use Rattle.tree.specs.Machine.{answerIn}
 use Rattle.search.specs.Machine.{stateIn, Chosen, Tryable, Trying, Turn, callFrom, attemptFrom, literalsFrom}
-use Rattle.search.specs.MachineLaws.{in-spent, in-clear, in-none, in-literals, in-passed, in-tried, trying-row, trying-attempt, turn-start, turn-end, turn-stops, turn-next, attempt-tryable, not-none}
+use Rattle.search.specs.MachineLaws.{in-spent, in-clear, in-none, in-dead, in-literals, in-passed, in-tried, trying-row, trying-attempt, turn-start, turn-end, turn-stops, turn-next, attempt-tryable, not-none}
 use Rattle.search.proofs.ball.attempt.Reads as attempt
 use Rattle.search.proofs.ball.attempt.Kinds as attempt-kinds
 use Rattle.search.proofs.ball.+attempt+call+literals.Lts-attempt as attempt-lts
@@ -137,62 +138,73 @@ module _ (t : ℕ) where
       let chosen = c .before .before in
       sym (in-clear _ _ _ _ _ _ (chosen .choose .result) (enough (chosen .before)) (first chosen) (c .before .if2 .taken))
 
-  call-add-t15 : call-lts.Need-add-t15 (call-claims t) (call-at t) call.Post
-  call-add-t15 c = omega (arith, enough (c .before .before .before))
+  call-add-t17 : call-lts.Need-add-t17 (call-claims t) (call-at t) call.Post
+  call-add-t17 c = omega (arith, enough (c .before .before .before))
 
   call-returns-3 : call-lts.Need-returns-3 (call-claims t) (call-at t) call.Post
   unfolding answerIn stateIn
   call-returns-3 c =
       let chosen = c .before .before in
-      sym (in-none _ _ _ _ _ _ (chosen .choose .result) (enough (chosen .before)) (first chosen) (c .before .if2 .left) (c .if3 .taken))
+      let clause = chosen .choose .result in
+      ⊎-elim
+      (λ q. sym (in-none _ _ _ _ _ _ clause (enough (chosen .before)) (first chosen) (c .before .if2 .left) (q .taken)))
+      (λ q.
+      let dead = ltb-true _ _ (q .1 .taken) in
+      sym (in-dead _ _ _ _ _ _ clause (enough (chosen .before)) (first chosen) (c .before .if2 .left) (q .0 .left) dead))
+      (c .if3 .came)
 
-  -- there is a flip for the calls of its literals
-  module _ (c : call-lts.Else3 (call-claims t) (call-at t) call.Post) where
-    tried-with : let chosen = c .before .before in
+  -- there is a clause to branch on, and a flip for the calls of its literals
+  module _ (c : call-lts.Else4 (call-claims t) (call-at t) call.Post) where
+    inside : let chosen = c .before .before .before in chosen .choose .result < chosen .before .before .before .args .k
+    inside =
+        let chosen = c .before .before .before in
+        let alive = ltb-false (chosen .before .before .before .args .k) (chosen .choose .result) (c .if4 .left) in
+        omega (arith, c .before .before .if2 .left, alive)
+
+    tried-with : let chosen = c .before .before .before in
         let a = chosen .before .before .before .args in
         Trying (a .k) (a .cells .now) (a .occ .now) (a .planes .now) (stateIn (a .at)) (chosen .choose .result) 0 (a .left)
         (a .calls + 1) (a .budget)
     tried-with =
-        let chosen = c .before .before in
+        let chosen = c .before .before .before in
         let s = chosen .before .before .before in
-        let f = first chosen in
-        let inside : chosen .choose .result < s .args .k = omega (arith, f .within, c .before .if2 .left) in
         record {
           ready = s .pre .1 .0;
           shows = s .pre .1 .1;
           inside = inside;
-          failing = f .failing inside;
-          flips = pos-of-ne-zero (c .if3 .left);
+          failing = first chosen .failing inside;
+          flips = pos-of-ne-zero (c .before .if3 .left);
           enough = omega (arith, enough (chosen .before));
           more = omega arith;
         }
 
     -- what the call gives is what its literals give
-    call-gives : let chosen = c .before .before in
+    call-gives : let chosen = c .before .before .before in
         let a = chosen .before .before .before .args in
         let clause = clauseAt (a .cells .now) (chosen .choose .result) in
         settle (a .budget) (a .calls) (callFrom (a .k) (a .cells .now) (a .left) (stateIn (a .at))) ≡
         settle (a .budget) (a .calls + 1) (literalsFrom (a .k) (a .cells .now) (a .left) (stateIn (a .at)) clause)
     call-gives =
-        let chosen = c .before .before in
-        in-literals _ _ _ _ _ _ (chosen .choose .result) (enough (chosen .before)) (first chosen) (c .before .if2 .left) (c .if3 .left)
+        let chosen = c .before .before .before in
+        in-literals _ _ _ _ _ _ (chosen .choose .result) (enough (chosen .before)) (first chosen) (c .before .before .if2 .left)
+        (c .before .if3 .left) inside
 
   call-add-last-literals : call-lts.Need-add-last-literals (call-claims t) (call-at t) call.Post
-  call-add-last-literals c = omega (arith, enough (c .before .before .before .before))
+  call-add-last-literals c = omega (arith, enough (c .before .before .before .before .before))
 
   call-last-literals-requires : call-lts.Need-last-literals-requires (call-claims t) (call-at t) call.Post
-  call-last-literals-requires c κs = rw (c .if4 .taken) at (tried-with (c .before))
+  call-last-literals-requires c κs = rw (c .if5 .taken) at (tried-with (c .before))
 
   call-returns-4 : call-lts.Need-returns-4 (call-claims t) (call-at t) call.Post
-  call-returns-4 c = rw (call-gives (c .before .before), c .before .if4 .taken) (c .last-literals .ensures)
+  call-returns-4 c = rw (call-gives (c .before .before), c .before .if5 .taken) (c .last-literals .ensures)
 
   call-add-literals : call-lts.Need-add-literals (call-claims t) (call-at t) call.Post
-  call-add-literals c = omega (arith, enough (c .before .before .before .before .before))
+  call-add-literals c = omega (arith, enough (c .before .before .before .before .before .before))
 
   call-literals-requires : call-lts.Need-literals-requires (call-claims t) (call-at t) call.Post
   call-literals-requires c κs =
       let d = c .before .before in
-      let s = d .before .before .before .before .before in
+      let s = d .before .before .before .before .before .before in
       let w = tried-with d in
       (omega (arith, s .pre .0, trying-row w .short, w .flips), (w, refl))
 
@@ -342,7 +354,7 @@ pub +attempt+call+literals-spec : {M : Type 1} → statement M
     (call-choose-requires t)
     (call-add-t14 t)
     (call-returns-2 t)
-    (call-add-t15 t)
+    (call-add-t17 t)
     (call-returns-3 t)
     (call-add-last-literals t)
     (call-last-literals-requires t)
