@@ -12,14 +12,14 @@ use lib.Count.{trailingZeros, trailing-le}
 use borrow.Author.Tests.{lt-ltb, le-ltb, ltb-true, ltb-false}
 use Rattle.words.specs.Lists.{every}
 use Rattle.words.specs.Bits.{bit}
-use Rattle.words.specs.BitLaws.{digit, bit-zero}
+use Rattle.words.specs.BitLaws.{digit, bit-zero, trailing-below, trailing-at}
 use Rattle.formula.specs.Formula.{Clause}
 use Rattle.formula.specs.Counts.{holds, Steps}
 use Rattle.formula.specs.Machine.{clauseAt, held}
 use Rattle.formula.specs.HeldLaws.{held-every, held-fails}
 use Rattle.planes.specs.declared.Planes.{Planes}
 use Rattle.planes.specs.Machine.{lanes, rowWords, laneCount, rowCount, wordsOf, countIn, countAt, planesAt, Counts, Passing, First, isZero, lane, Occurs, Moved, ZerosAfter, Shifted}
-use Rattle.planes.specs.LaneLaws.{bit-and, trailing-below, trailing-at}
+use Rattle.planes.specs.LaneLaws.{bit-and}
 
 -- ---- the lanes of a literal
 

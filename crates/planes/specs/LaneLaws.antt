@@ -1,11 +1,10 @@
--- The laws of bits of a machine word: each word operation acts on each bit apart, and where the lowest bit that is set stands.
+-- The laws of bits of a machine word: each word operation acts on each bit apart.
 use mathlib.Core.Path.{_≡_, refl, sym, ap, _∙_}
 use mathlib.Core.Bool.{Bool, true, false, not}
-use Prim.Native.Nat.{ℕ, zero, suc, _-_, _*_, _/_, _%_, _^_, _≤_, _<_, suc-le-suc}
+use Prim.Native.Nat.{ℕ, zero, suc, _-_, _*_, _/_, _%_, _^_, _≤_, _<_}
 use native.Mathlib.Nat.{not-suc-le-zero, le-of-suc-le-suc, div-eq-of-lt, pow-suc, one-mul, sub-zero}
 use native.Mathlib.Omega.{arith}
 use lib.Dec.{eqb, leb, lit<}
-use lib.Count.{trailingZeros, under}
 use lib.Pow.{pow-pos, pow-mono, pow-lt, shl-exact}
 use borrow.Author.Tests.{le-leb, lt-leb, leb-true, leb-false}
 use Rattle.words.specs.Bits.{bit}
@@ -53,25 +52,3 @@ bit-from s j h l = bit-not lanes (2 ^ s - 1) j (omega (arith, pow-lt h, pow-pos 
     go false e =
         let less : bit (2 ^ s - 1) j ≡ bit (2 ^ s - 1 - 0) j = ap (λ (x : ℕ). bit x j) (sym (sub-zero (2 ^ s - 1))) in
         ap not (less ∙ bit-not s 0 j (pow-pos s) (leb-false s j e) ∙ ap not (bit-zero j))
-
--- ---- the lowest bit that is set
-
-pub trailing-below : (k x j : ℕ) → j < trailingZeros k x → bit x j ≡ false
-unfolding trailingZeros
-trailing-below zero x j l = absurd (not-suc-le-zero l)
-trailing-below (suc k) x j l = go (trailing-below k (x / 2)) (x % 2) refl j l
-  where
-    go : ((i : ℕ) → i < trailingZeros k (x / 2) → bit (x / 2) i ≡ false) → (d : ℕ) → x % 2 ≡ d → (i : ℕ) →
-        i < under d (trailingZeros k (x / 2)) → bit x i ≡ false
-    go below zero e zero h = rw (bit-low, e)
-    go below zero e (suc i) h = bit-suc x i ∙ below i (le-of-suc-le-suc h)
-    go below (suc d) e i h = absurd (not-suc-le-zero h)
-
-pub trailing-at : (k x : ℕ) → (x ≡ 0 → ⊥) → x < 2 ^ k → (trailingZeros k x < k) × (bit x (trailingZeros k x) ≡ true)
-unfolding trailingZeros
-trailing-at zero x p h = absurd (p (omega arith))
-trailing-at (suc k) x p h =
-    let t = trailingZeros k (x / 2) in
-    by-parity (λ d. (under d t < suc k) × (bit x (under d t) ≡ true)) x
-    (λ e. let b = trailing-at k (x / 2) (λ q. p (omega arith)) (omega (arith, pow-suc 2 k)) in (suc-le-suc (b .0), bit-suc x t ∙ b .1))
-    (λ e. (omega arith, rw (bit-low, e)))

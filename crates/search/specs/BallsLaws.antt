@@ -1,17 +1,17 @@
 -- The laws of the loop over the balls: the planes move from centre to centre, one toggle after the other.
 use mathlib.Core.Path.{_≡_, refl, sym, ap, _∙_, subst}
-use mathlib.Core.Logic.{_⊎_, ⊎-elim}
+use mathlib.Core.Logic.{⊎-elim}
 use mathlib.Core.Bool.{Bool, true, false, not, Bool·beq}
 use mathlib.Core.List.{List}
 use Prim.Native.Nat.{ℕ, _+_, _-_, _/_, _^_, _≤_, _<_}
-use native.Mathlib.Nat.{eq-or-lt-of-le, div-lt-iff-lt-mul, le-div-iff-mul-le, one-mul}
+use native.Mathlib.Nat.{lt-of-not-le, eq-or-lt-of-le, div-lt-iff-lt-mul, le-div-iff-mul-le, one-mul}
 use native.Mathlib.Omega.{arith}
 use lib.ListN.{length}
 use lib.Pow.{pow-pos}
 use Rattle.words.specs.ListLaws.{beq-true, beq-false}
-use Rattle.words.specs.Bits.{bit, toggle}
+use Rattle.words.specs.Bits.{bit, toggle, width}
 use Rattle.words.specs.BitLaws.{bit-toggle-same, bit-toggle-other, toggle-lt, bits-ext}
-use Rattle.words.specs.Machine.{bitsOf}
+use Rattle.words.specs.Machine.{bitsOf, FirstDifference}
 use Rattle.formula.specs.Counts.{signWord}
 use Rattle.formula.specs.SignLaws.{sign-bit, sign-unmet}
 use Rattle.tree.specs.declared.Found.{Found}
@@ -61,33 +61,21 @@ module _ (v m w : ℕ) (x y : Bool) (p : x ≡ bit m v) (q : y ≡ bit w v) wher
 
 -- ---- all bits
 
--- the first v bits of m are those of w
-pub record FirstBits (n v m w : ℕ) : Type 0 where
-  pub within : v ≤ n
-  pub below : m < 2 ^ n
-  pub each : (u : ℕ) → u < v → bit m u ≡ bit w u
-
-module _ (n w : ℕ) where
-  pub bits-start : (m : ℕ) → m < 2 ^ n → FirstBits n 0 m w
-  bits-start m h = record { within = omega arith; below = h; each = λ u l. absurd (omega arith) }
-
-  pub bits-step : (v m m′ : ℕ) → v < n → Matched v m w m′ → FirstBits n v m w → FirstBits n (v + 1) m′ w
-  bits-step v m m′ l h a =
-      record {
-        within = omega arith;
-        below = h .below n l (a .below);
-        each = λ u p.
-            ⊎-elim
-            (λ e. ap (bit m′) e ∙ h .same ∙ ap (bit w) (sym e))
-            (λ p′. h .other u (λ e. omega arith) ∙ a .each u p′)
-            (split u p);
-      }
+module _ (w m v : ℕ) (d : FirstDifference width m w v) where
+  -- once a bit is matched, the first difference lies further on
+  pub difference-later : (m′ v′ : ℕ) → v < width → Matched v m w m′ → FirstDifference width m′ w v′ → v < v′
+  difference-later m′ v′ l h d′ = lt-of-not-le (λ p. d′ .here (omega arith) (same v′ p))
     where
-      split : (u : ℕ) → u < v + 1 → (u ≡ v) ⊎ (u < v)
-      split u p = eq-or-lt-of-le (omega arith)
+      same : (u : ℕ) → u ≤ v → bit m′ u ≡ bit w u
+      same u p =
+          ⊎-elim
+          (λ e. ap (bit m′) e ∙ h .same ∙ ap (bit w) (sym e))
+          (λ p′. h .other u (λ e. omega arith) ∙ d .before u p′)
+          (eq-or-lt-of-le p)
 
-  pub bits-end : (v m : ℕ) → n ≤ v → w < 2 ^ n → FirstBits n v m w → m ≡ w
-  bits-end v m l h a = bits-ext n m w (a .below) h (λ u p. a .each u (omega arith))
+  -- where it is past n, two numbers of n bits are the same
+  pub difference-none : (n : ℕ) → n ≤ v → m < 2 ^ n → w < 2 ^ n → m ≡ w
+  difference-none n l p q = bits-ext n m w p q (λ u h. d .before u (omega arith))
 
 -- ---- the balls
 

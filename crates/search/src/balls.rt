@@ -41,7 +41,8 @@ fn matched(
     at.toggled(v)
 }
 
-// The planes of `from` become those of `to`, two assignments of n variables.
+// The planes of `from` become those of `to`, two assignments of n variables: only the bits in which
+// they differ are visited.
 fn recentre(
     occ: &[u64; OCCURRENCES],
     k: usize,
@@ -55,10 +56,10 @@ fn recentre(
     ensures { λ r. ⌜ Moves k (now (occ .entry)) (bitsOf from) (now (planes .entry)) (bitsOf to) (now (planes .exit)) ⌝ }
 {
     let mut at = from;
-    let mut v = 0;
+    let mut v = at.first_difference(to);
     while v < n {
         at = matched(occ, k, planes, at, to, v);
-        v += 1;
+        v = at.first_difference(to);
     }
 }
 

@@ -7,7 +7,7 @@ use native.Mathlib.Numerals.{one-add}
 use native.Mathlib.Omega.{arith}
 use lib.Dec.{eqb, lit<, eqb·zero-suc, eqb·suc-zero, eqb·suc-suc}
 use lib.Bits.{bitAnd, bitOr, bitXor, differ, and-step, or-step, xor-step, and-shr, or-shr, xor-shr, xor-self, xor-lt, xor-block}
-use lib.Count.{ones, ones-step, ones-cat}
+use lib.Count.{trailingZeros, under, ones, ones-step, ones-cat}
 use lib.Pow.{pow-lt, shr-shr}
 use borrow.Author.Tests.{eq-eqb, ne-eqb, eqb-true, eqb-false}
 use Rattle.words.specs.Bits.{bit, toggle, distance}
@@ -107,12 +107,17 @@ unfolding xor
 xor-false true = refl
 xor-false false = refl
 
-xor-same : (a b : Bool) → xor a b ≡ false → a ≡ b
+pub xor-same : (a b : Bool) → xor a b ≡ false → a ≡ b
 unfolding xor
 xor-same true true e = refl
 xor-same true false e = absurd (true≢false e)
 xor-same false true e = absurd (true≢false e)
 xor-same false false e = refl
+
+pub xor-equal : (a b : Bool) → a ≡ b → xor a b ≡ false
+unfolding xor
+xor-equal true b e = ap (xor true) (sym e)
+xor-equal false b e = ap (xor false) (sym e)
 
 xor-true : (b : Bool) → xor b true ≡ not b
 unfolding xor
@@ -159,6 +164,28 @@ toggle-twice n m v h l = bits-ext n _ m (toggle-lt n (toggle m v) v (toggle-lt n
     go w false e =
         let other = eqb-false v w e in
         bit-toggle-other (toggle m v) v w other ∙ bit-toggle-other m v w other
+
+-- ---- the lowest bit that is set
+
+pub trailing-below : (k x j : ℕ) → j < trailingZeros k x → bit x j ≡ false
+unfolding trailingZeros
+trailing-below zero x j l = absurd (not-suc-le-zero l)
+trailing-below (suc k) x j l = go (trailing-below k (x / 2)) (x % 2) refl j l
+  where
+    go : ((i : ℕ) → i < trailingZeros k (x / 2) → bit (x / 2) i ≡ false) → (d : ℕ) → x % 2 ≡ d → (i : ℕ) →
+        i < under d (trailingZeros k (x / 2)) → bit x i ≡ false
+    go below zero e zero h = rw (bit-low, e)
+    go below zero e (suc i) h = bit-suc x i ∙ below i (le-of-suc-le-suc h)
+    go below (suc d) e i h = absurd (not-suc-le-zero h)
+
+pub trailing-at : (k x : ℕ) → (x ≡ 0 → ⊥) → x < 2 ^ k → (trailingZeros k x < k) × (bit x (trailingZeros k x) ≡ true)
+unfolding trailingZeros
+trailing-at zero x p h = absurd (p (omega arith))
+trailing-at (suc k) x p h =
+    let t = trailingZeros k (x / 2) in
+    by-parity (λ d. (under d t < suc k) × (bit x (under d t) ≡ true)) x
+    (λ e. let b = trailing-at k (x / 2) (λ q. p (omega arith)) (omega (arith, pow-suc 2 k)) in (suc-le-suc (b .0), bit-suc x t ∙ b .1))
+    (λ e. (omega arith, rw (bit-low, e)))
 
 -- ---- counting
 

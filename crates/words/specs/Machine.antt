@@ -1,10 +1,10 @@
 -- What the machine's assignment reads as, and the words in which a host in C lends one.
 use mathlib.Core.Path.{_≡_}
 use mathlib.Core.List.{List}
-use Prim.Native.Nat.{ℕ, _/_, _^_, _<_}
+use Prim.Native.Nat.{ℕ, _/_, _^_, _≤_, _<_}
 use lib.ListN.{length, getD}
 use Rattle.words.specs.declared.Assignment.{Assignment}
-use Rattle.words.specs.Bits.{width}
+use Rattle.words.specs.Bits.{bit, width}
 
 -- the number whose bits an assignment holds: bit v - 1 is the value of variable v
 unfoldable pub bitsOf : Assignment → ℕ
@@ -18,3 +18,9 @@ wordCount = width / 32
 pub record Lent (ws : List ℕ) : Type 0 where
   pub size : length ws ≡ wordCount
   pub each : (i : ℕ) → getD ws i 0 < 2 ^ 32
+
+-- r is the lowest bit in which a and b differ, or n where their lowest n bits are the same.
+pub record FirstDifference (n a b r : ℕ) : Type 0 where
+  pub within : r ≤ n
+  pub before : (v : ℕ) → v < r → bit a v ≡ bit b v
+  pub here : r < n → bit a r ≡ bit b r → ⊥

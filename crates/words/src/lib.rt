@@ -4,7 +4,7 @@ ghost use mathlib.Core.Path.{_≡_};
 ghost use Prim.Native.Nat.{_+_, _*_, _^_, _<_, min};
 ghost use lib.ListN.{length};
 ghost use Rattle.words.specs.Bits.{bit, toggle, width, fromWords};
-ghost use Rattle.words.specs.Machine.{bitsOf, wordCount};
+ghost use Rattle.words.specs.Machine.{bitsOf, wordCount, FirstDifference};
 
 // How many variables an assignment has room for (specs/Bits.antt).
 pub const WIDTH: u32 = 32;
@@ -59,6 +59,13 @@ impl Assignment {
         Assignment {
             word: self.word ^ (1u32 << v),
         }
+    }
+
+    // The lowest bit in which the two differ, or WIDTH where they are the same.
+    pub fn first_difference(self, other: Assignment) -> u32
+        ensures { λ r. ⌜ FirstDifference width (bitsOf self) (bitsOf other) r ⌝ }
+    {
+        u32::trailing_zeros(self.word ^ other.word)
     }
 
     // The bits of word above the lowest `shift` bits, which are self's.
