@@ -10,9 +10,11 @@ ghost use Rattle.formula.specs.Formula.{lengthLimit, Clause};
 ghost use Rattle.formula.specs.Machine.{cellCount, lengthAt, literalAt, clauseAt};
 ghost use Rattle.planes.specs.Machine.{lanes, rowWords, laneCount, rowCount, occurrenceCells, firstCounter, secondCounter, slots, planeCells, countIn, planesAt, Counts, Picked, Readable, Occurs, Marked, Moved, ZerosAfter, Stored, ShiftedSlot, Shifted, AboveZero, Summed, Starts};
 
-// The sizes of specs/Machine.antt: lanes of a word, words of a row, cells of the occurrence table,
-// slots of two counters, and cells of an array of planes.
+// The sizes of specs/Machine.antt: lanes of a word and of two words, words of a row, cells of the
+// occurrence table, slots of two counters, and cells of an array of planes.
 const LANES: usize = 64;
+
+const PAIR: usize = 2 * LANES;
 
 const ROW: usize = 16;
 
@@ -236,7 +238,9 @@ pub fn shift(
     ensures { λ r. ⌜ Shifted k firstCounter (first .up) (first .down) (now (occ .entry)) (now (from .entry)) (now (to .exit)) ⌝ }
     ensures { λ r. ⌜ Shifted k secondCounter (second .up) (second .down) (now (occ .entry)) (now (from .entry)) (now (to .exit)) ⌝ }
 {
-    let words = (k + (LANES - 1)) / LANES;
+    // An even number of words, so that two are moved at a time: what goes on past the last clause does
+    // not matter.
+    let words = 2 * ((k + (PAIR - 1)) / PAIR);
     let mut w: usize = 0;
     while w < words {
         shift_slot(occ, w, FIRST + w, first, from, to);

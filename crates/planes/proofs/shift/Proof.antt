@@ -2,7 +2,7 @@
 use Prim.Native.Nat.{_-_}
 use native.Mathlib.Omega.{arith}
 use borrow.Author.Needs.{needs}
-use Rattle.planes.specs.Machine.{firstCounter, secondCounter, wordsOf}
+use Rattle.planes.specs.Machine.{firstCounter, secondCounter}
 use Rattle.planes.specs.PlaneLaws.{FirstWords, words-none, words-step}
 use Rattle.planes.specs.CountsLaws.{MovesTo, all-shifted}
 use Rattle.planes.proofs.shift.Statement.{statement}
@@ -11,7 +11,7 @@ use Rattle.planes.proofs.shift.Tie as tie
 abbrev Inv-loop : tie.InvT-loop
 Inv-loop occ k first second from to₀ words w₀ to w =
     FirstWords (MovesTo firstCounter (first .up) (first .down) occ from) (MovesTo secondCounter (second .up) (second .down) occ from)
-    (wordsOf k) to w
+    words to w
 
 abbrev μ-loop : tie.MeasureT-loop
 μ-loop occ k first second from to₀ words w₀ to w = words - w
@@ -21,6 +21,9 @@ sub-words c = omega arith
 
 add-words : tie.Need-add-words Inv-loop μ-loop
 add-words c = omega arith
+
+mul-words : tie.Need-mul-words Inv-loop μ-loop
+mul-words c = omega arith
 
 loop-holds : tie.Need-loop-holds Inv-loop μ-loop
 loop-holds c = words-none (c .pre .1 .1 .1)
@@ -65,6 +68,7 @@ shift-spec =
     μ-loop
     sub-words
     add-words
+    mul-words
     loop-holds
     add-shift-slot
     shift-slot-requires
