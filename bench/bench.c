@@ -27,60 +27,64 @@ static void put(uint32_t word)
     for (int i = 0; i < 4; i++) bytes[length++] = word >> 8 * i;
 }
 
+/* a variable that the clause has not used yet */
+static uint32_t fresh(uint32_t n, uint8_t used[128])
+{
+    uint32_t v;
+    do v = below(n); while (used[v]);
+    used[v] = 1;
+    return v + 1;
+}
+
 /* count clauses of c literals over n variables */
 static void make(uint32_t n, uint32_t count, uint32_t c)
 {
     length = 0;
     put(3u << 30), put(3u << 30 | 1), put(2u << 30 | n);
     for (uint32_t i = 0; i < count; i++) {
-        uint32_t used = 0, v;
+        uint8_t used[128] = { 0 };
         put(1u << 30 | c);
-        for (uint32_t j = 0; j < c; j++) {
-            do v = below(n); while (used >> v & 1);
-            used |= 1u << v;
-            put(2 * (v + 1) + below(2));
-        }
+        for (uint32_t j = 0; j < c; j++) put(2 * fresh(n, used) + below(2));
     }
 }
 
-/* all 256 clauses over the variables 1 to 8, which have no model, among random clauses of 8 literals */
-static void make_eights(void)
+/* all 256 clauses over eight variables, step apart from 1 on, which have no model, among random clauses of 8 literals */
+static void make_eights(uint32_t n, uint32_t step)
 {
     length = 0;
-    put(3u << 30), put(3u << 30 | 1), put(2u << 30 | 32);
+    put(3u << 30), put(3u << 30 | 1), put(2u << 30 | n);
     for (uint32_t i = 0; i < 1024; i++) {
-        uint32_t used = 0, v;
+        uint8_t used[128] = { 0 };
         put(1u << 30 | 8);
         for (uint32_t j = 0; j < 8; j++) {
-            if (i % 4 == 0) {
-                put(2 * (j + 1) + (i / 4 >> j & 1));
-                continue;
-            }
-            do v = below(32); while (used >> v & 1);
-            used |= 1u << v;
-            put(2 * (v + 1) + below(2));
+            if (i % 4 == 0) put(2 * (j * step + 1) + (i / 4 >> j & 1));
+            else put(2 * fresh(n, used) + below(2));
         }
     }
 }
 
 static const char *verdicts[] = { "refused", "clear", "none", "spent" };
 
-/* A run by the library, by plain C as the steps are worded, and by plain C with vectors. */
-static int search(const char *what, uint32_t b, uint32_t s, uint32_t budget)
+static int agree(const struct reply *reply, int verdict, const struct plain_answer *answer)
 {
-    static struct plain_sheet sheet;
+    return reply->verdict == (uint32_t)verdict && reply->calls == answer->calls && memcmp(reply->marks, answer->marks, sizeof reply->marks) == 0;
+}
+
+/* A run by the library, by plain C as the steps are worded, and by plain C with vectors. */
+static int search(const struct plain *plain, const char *what, uint32_t b, uint32_t s, uint32_t budget)
+{
     double best[3] = { 1e9, 1e9, 1e9 };
     struct reply reply = { 0 };
     int same = 1;
     for (int i = 0; i < 9; i++) {
-        struct plain_search plain = { .vectors = i % 3 == 2 };
+        struct plain_answer answer;
         int verdict = 0;
         double at = seconds();
         if (i % 3 == 0) reply = run(b, s, budget, bytes, length);
-        else verdict = plain_run(b, s, budget, bytes, length, &plain, &sheet);
+        else verdict = plain->run(b, s, budget, bytes, length, i % 3 == 2, &answer);
         double took = seconds() - at;
         if (took < best[i % 3]) best[i % 3] = took;
-        if (i % 3) same &= reply.verdict == (uint32_t)verdict && reply.calls == plain.calls && (verdict != 1 || reply.marks == plain.found);
+        if (i % 3) same &= agree(&reply, verdict, &answer);
     }
     printf("%-44s %-6s %10u calls  %7.3f s  %5.1f million calls/s  plain %7.3f s  ratio %.2f  vectors %7.3f s  ratio %.2f%s\n", what,
            verdicts[reply.verdict], reply.calls, best[0], reply.calls / best[0] / 1e6, best[1], best[0] / best[1], best[2],
@@ -88,40 +92,39 @@ static int search(const char *what, uint32_t b, uint32_t s, uint32_t budget)
     return same;
 }
 
-static int reading(void)
+static int reading(const struct plain *plain, const char *what)
 {
-    static struct plain_sheet sheet;
     int rounds = 2000, ok = 1;
     double at = seconds();
     for (int i = 0; i < rounds; i++) ok &= run(1, 0, 0, bytes, length).verdict == ENGINE_SPENT;
     double mid = seconds();
-    for (int i = 0; i < rounds; i++) ok &= plain_read(bytes, length, &sheet) == 0;
+    for (int i = 0; i < rounds; i++) ok &= plain->check(bytes, length) == 0;
     double end = seconds();
-    printf("%-44s %8.1f us  plain (masks only) %8.1f us  ratio %.2f%s\n", "read a sheet of 36,876 bytes, ready to search",
-           (mid - at) / rounds * 1e6, (end - mid) / rounds * 1e6, (mid - at) / (end - mid), ok ? "" : "  DIFFERENT ANSWERS");
+    printf("%-44s %8.1f us  plain (masks only) %8.1f us  ratio %.2f%s\n", what, (mid - at) / rounds * 1e6, (end - mid) / rounds * 1e6,
+           (mid - at) / (end - mid), ok ? "" : "  DIFFERENT ANSWERS");
     return ok;
 }
 
 /* Toggles of one variable after the other, beside plain C's, and beside the full reading of the sheet that they spare: plain C's, and a
    question to clause_counts for each clause. */
-static int toggling(const char *what, uint32_t clauses)
+static int toggling(const struct plain *plain, const char *what, uint32_t n, uint32_t clauses)
 {
-    static struct plain_sheet sheet;
-    static struct plain_tally plain, full;
+    static struct plain_tally theirs, full;
     static uint8_t met[1024];
-    uint32_t marks[1], unmet, none[1] = { 0 };
-    int rounds = 3200, ok = tally_begin(bytes, length, marks, met, &unmet).number == 0 && plain_recount(bytes, length, &plain, &sheet) == 0;
+    uint32_t marks[ENGINE_WORDS], unmet, none[ENGINE_WORDS] = { 0 };
+    memset(&theirs, 0, sizeof theirs);
+    int rounds = 3200, ok = tally_begin(bytes, length, marks, met, &unmet).number == 0 && plain->recount(bytes, length, &theirs) == 0;
     double at = seconds();
-    for (int i = 0; i < rounds; i++) ok &= tally_toggle(bytes, length, 1 + i * 7 % 32, marks, met, &unmet).number == 0;
+    for (int i = 0; i < rounds; i++) ok &= tally_toggle(bytes, length, 1 + i * 7 % n, marks, met, &unmet).number == 0;
     double mid = seconds();
-    for (int i = 0; i < rounds; i++) ok &= plain_toggle(bytes, length, 1 + i * 7 % 32, &plain, &sheet) == 0;
+    for (int i = 0; i < rounds; i++) ok &= plain->toggle(bytes, length, 1 + i * 7 % n, &theirs) == 0;
     double end = seconds();
-    full.marks = marks[0];
-    for (int i = 0; i < rounds; i++) ok &= plain_recount(bytes, length, &full, &sheet) == 0;
+    memcpy(full.marks, marks, sizeof marks);
+    for (int i = 0; i < rounds; i++) ok &= plain->recount(bytes, length, &full) == 0;
     double last = seconds();
     for (uint32_t i = 0; i < clauses; i++) ok &= clause_counts(bytes, length, i, marks, none).met == met[i];
     double asked = seconds();
-    ok &= marks[0] == plain.marks && unmet == plain.unmet && memcmp(met, plain.met, 1024) == 0;
+    ok &= memcmp(marks, theirs.marks, sizeof marks) == 0 && unmet == theirs.unmet && memcmp(met, theirs.met, 1024) == 0;
     ok &= unmet == full.unmet && memcmp(met, full.met, 1024) == 0;
     printf("%-44s %8.1f us  plain %8.1f us  ratio %.2f  full reading: plain %8.1f us, by clause_counts %8.1f us%s\n", what,
            (mid - at) / rounds * 1e6, (end - mid) / rounds * 1e6, (mid - at) / (end - mid), (last - end) / rounds * 1e6,
@@ -175,24 +178,52 @@ static int volumes(void)
     return ours == theirs;
 }
 
+static int rows_32(void)
+{
+    const struct plain *narrow = &plain32_operations;
+    make(32, 160, 3);
+    int ok = search(narrow, "n 32, 160 clauses of 3, plan 11, 3", 11, 3, 4294967295u);
+    make(32, 700, 5);
+    ok &= search(narrow, "n 32, 700 clauses of 5, plan 11, 2", 11, 2, 20000000);
+    make(32, 1024, 3);
+    ok &= search(narrow, "n 32, 1,024 clauses of 3, plan 11, 3", 11, 3, 20000000);
+    make(32, 160, 3);
+    ok &= search(narrow, "n 32, 160 clauses of 3, plan 8, 0", 8, 0, 20000000);
+    make_eights(32, 1);
+    ok &= search(narrow, "n 32, 1,024 clauses of 8, plan 8, 2", 8, 2, 5000000);
+    make(32, 1024, 3);
+    ok &= toggling(narrow, "toggle a variable, 1,024 clauses of 3", 32, 1024);
+    make(32, 1024, 8);
+    ok &= toggling(narrow, "toggle a variable, 1,024 clauses of 8", 32, 1024);
+    ok &= reading(narrow, "read a sheet of 36,876 bytes, ready to search");
+    return ok;
+}
+
+/* Made after the rows of 32 variables, whose sheets stay as they were. */
+static int rows_128(void)
+{
+    const struct plain *wide = &plain128_operations;
+    make(128, 550, 3);
+    int ok = search(wide, "n 128, 550 clauses of 3, plan 11, 3", 11, 3, 5000000);
+    ok &= search(wide, "n 128, 550 clauses of 3, plan 12, 12", 12, 12, 5000000);
+    ok &= search(wide, "n 128, 550 clauses of 3, plan 8, 0", 8, 0, 2000000);
+    make(128, 1024, 5);
+    ok &= search(wide, "n 128, 1,024 clauses of 5, plan 11, 3", 11, 3, 20000000);
+    make_eights(128, 16);
+    ok &= search(wide, "n 128, 1,024 clauses of 8, plan 8, 2", 8, 2, 3000000);
+    make(128, 1024, 2);
+    ok &= search(wide, "n 128, 1,024 clauses of 2, plan 12, 11", 12, 11, 20000000);
+    make(128, 1024, 8);
+    ok &= toggling(wide, "n 128, toggle a variable, 1,024 clauses of 8", 128, 1024);
+    ok &= reading(wide, "n 128, read a sheet of 36,876 bytes");
+    return ok;
+}
+
 int main(void)
 {
     int ok = codes();
     ok &= volumes();
-    make(32, 160, 3);
-    ok &= search("n 32, 160 clauses of 3, plan 11, 3", 11, 3, 4294967295u);
-    make(32, 700, 5);
-    ok &= search("n 32, 700 clauses of 5, plan 11, 2", 11, 2, 20000000);
-    make(32, 1024, 3);
-    ok &= search("n 32, 1,024 clauses of 3, plan 11, 3", 11, 3, 20000000);
-    make(32, 160, 3);
-    ok &= search("n 32, 160 clauses of 3, plan 8, 0", 8, 0, 20000000);
-    make_eights();
-    ok &= search("n 32, 1,024 clauses of 8, plan 8, 2", 8, 2, 5000000);
-    make(32, 1024, 3);
-    ok &= toggling("toggle a variable, 1,024 clauses of 3", 1024);
-    make(32, 1024, 8);
-    ok &= toggling("toggle a variable, 1,024 clauses of 8", 1024);
-    ok &= reading();
+    ok &= rows_32();
+    ok &= rows_128();
     return !ok;
 }

@@ -1,30 +1,50 @@
-/* Measures the stack that run, alike, clause_counts, tally_toggle and covering_code take: each runs on a painted stack, and the paint left is counted.
-   The sheet makes the search as deep as it can be, 32 flips: n 32, and in every block each variable within the radius. Each flip is of the
-   last literal of its clause, after up to seven whose variables are flipped already: each literal of a clause takes stack too. */
+/* Measures the stack that run, alike, clause_counts, tally_toggle and covering_code take: each runs on a painted stack, and the paint left is
+   counted. The sheet makes the search as deep as it can be, n flips: in every block each variable is within the radius. Each flip is of the
+   last literal of its clause, after up to seven whose variables are flipped already, so that a stack that grows with a clause's literals
+   shows too. n 128 is the limit; n 32 was it before paper 5. */
 #include <pthread.h>
 #include <stdio.h>
+#include <stdlib.h>
 #include <string.h>
 #include "../include/engine.h"
 
-#define SIZE (1 << 20)
+#define SIZE (4 << 20)
 
 static uint8_t stack[SIZE] __attribute__((aligned(4096)));
 static uint8_t sheet[36876];
 static size_t length;
 static uint16_t table[4096];
+static struct reply reply;
 
 static void put(uint32_t word)
 {
     for (int i = 0; i < 4; i++) sheet[length++] = word >> 8 * i;
 }
 
-static void *do_run(void *unused) { run(1, 1, 1000000, sheet, length); return unused; }
-static void *do_run_12(void *unused) { run(12, 12, 1000000, sheet, length); return unused; }
+static void make(uint32_t n)
+{
+    length = 0;
+    put(3u << 30), put(3u << 30), put(2u << 30 | n);
+    for (uint32_t v = 1; v <= n; v++) {
+        uint32_t before = v < 8 ? v - 1 : 7;
+        put(1u << 30 | (before + 1));
+        for (uint32_t u = 1; u <= before; u++) put(2 * u + 1);
+        put(2 * v);
+    }
+}
+
+static void *do_run(void *unused) { reply = run(1, 1, 1000000, sheet, length); return unused; }
+static void *do_run_12(void *unused) { reply = run(12, 12, 1000000, sheet, length); return unused; }
 static void *do_alike(void *unused) { alike(sheet, length, sheet, length); return unused; }
-static void *do_counts(void *unused) { uint32_t marks[1] = { 1 }; clause_counts(sheet, length, 0, marks, marks); return unused; }
+static void *do_counts(void *unused)
+{
+    uint32_t marks[ENGINE_WORDS] = { 1 };
+    clause_counts(sheet, length, 0, marks, marks);
+    return unused;
+}
 static void *do_toggle(void *unused)
 {
-    static uint32_t marks[1], unmet;
+    static uint32_t marks[ENGINE_WORDS], unmet;
     static uint8_t met[1024];
     tally_begin(sheet, length, marks, met, &unmet);
     tally_toggle(sheet, length, 1, marks, met, &unmet);
@@ -47,18 +67,28 @@ static size_t used(void *(*work)(void *))
     return SIZE - left;
 }
 
+/* A search that is n flips deep takes n + 1 calls on this sheet. */
+static size_t deepest(void *(*work)(void *), uint32_t n)
+{
+    size_t bytes = used(work);
+    if (reply.verdict == ENGINE_CLEAR && reply.calls == n + 1) return bytes;
+    fprintf(stderr, "the search is not %u flips deep\n", n);
+    exit(1);
+}
+
+static void measure(uint32_t n)
+{
+    make(n);
+    size_t base = used(do_nothing);
+    printf("n %u: run %zu bytes (blocks of 12: %zu), alike %zu bytes, clause_counts %zu bytes, tally_toggle %zu bytes\n", n,
+           deepest(do_run, n) - base, deepest(do_run_12, n) - base, used(do_alike) - base, used(do_counts) - base, used(do_toggle) - base);
+}
+
 int main(void)
 {
-    put(3u << 30), put(3u << 30), put(2u << 30 | 32);
-    for (uint32_t v = 1; v <= 32; v++) {
-        uint32_t before = v < 8 ? v - 1 : 7;
-        put(1u << 30 | (before + 1));
-        for (uint32_t u = 1; u <= before; u++) put(2 * u + 1);
-        put(2 * v);
-    }
     size_t base = used(do_nothing);
-    printf("run %zu bytes (blocks of 12: %zu), alike %zu bytes, clause_counts %zu bytes, tally_toggle %zu bytes, covering_code %zu bytes\n",
-           used(do_run) - base, used(do_run_12) - base, used(do_alike) - base, used(do_counts) - base, used(do_toggle) - base,
-           used(do_code) - base);
+    printf("covering_code %zu bytes, with the dynamic linker's at its first call\n", used(do_code) - base);
+    measure(32);
+    measure(128);
     return 0;
 }

@@ -2,25 +2,47 @@
    clause stands under an assignment and a set of flipped variables, or a tally after each toggle of a variable.
    clear BLOCK_LENGTH RADIUS BUDGET FILE
    clear counts MARKS FLIPPED FILE
-   clear tally FILE VARIABLE... */
+   clear tally FILE VARIABLE...
+   MARKS and FLIPPED are one to four numbers with commas between them, variables 1 to 32 in the first; those left out are 0. */
 #include <stdio.h>
 #include <string.h>
 #include "../include/engine.h"
 
 static uint8_t sheet[36880]; /* one word more than the longest sheet, so that an overlong one is seen */
 
-/* Reads a decimal number of at most 32 bits; anything else is told and gives 0. */
-static int number(const char *what, const char *text, uint32_t *into)
+/* Reads a decimal number of at most 32 bits from the front of the text: gives its end, or a null pointer where there is none. */
+static const char *digits(const char *text, uint32_t *into)
 {
     uint64_t n = 0;
     const char *at = text;
     while (*at >= '0' && *at <= '9' && n <= UINT32_MAX) n = 10 * n + (uint64_t)(*at++ - '0');
-    if (at == text || *at || n > UINT32_MAX) {
-        fprintf(stderr, "clear: %s is '%s', and must be a decimal number from 0 to 4294967295\n", what, text);
-        return 0;
-    }
+    if (at == text || n > UINT32_MAX) return NULL;
     *into = (uint32_t)n;
-    return 1;
+    return at;
+}
+
+/* Reads a text that is one number; anything else is told and gives 0. */
+static int number(const char *what, const char *text, uint32_t *into)
+{
+    const char *end = digits(text, into);
+    if (end && !*end) return 1;
+    fprintf(stderr, "clear: %s is '%s', and must be a decimal number from 0 to 4294967295\n", what, text);
+    return 0;
+}
+
+/* Reads an assignment or a set of variables; anything else is told and gives 0. */
+static int variables(const char *what, const char *text, uint32_t into[ENGINE_WORDS])
+{
+    const char *at = text;
+    memset(into, 0, ENGINE_WORDS * sizeof into[0]);
+    for (int word = 0; word < ENGINE_WORDS; word++) {
+        at = digits(at, &into[word]);
+        if (at && !*at) return 1;
+        if (!at || *at++ != ',') break;
+    }
+    fprintf(stderr, "clear: %s is '%s', and must be one to four decimal numbers from 0 to 4294967295 with commas between them\n", what,
+            text);
+    return 0;
 }
 
 /* Reads the file into the sheet; a file that cannot be read is told and gives 0. */
@@ -49,9 +71,9 @@ static uint32_t clauses(size_t length)
 /* One line a clause, numbered from 1 as tools/sheet does: how it stands. */
 static int counts(char **argv)
 {
-    uint32_t marks[1], flipped[1];
+    uint32_t marks[ENGINE_WORDS], flipped[ENGINE_WORDS];
     size_t length;
-    if (!number("MARKS", argv[2], marks) || !number("FLIPPED", argv[3], flipped) || !contents(argv[4], &length)) return 2;
+    if (!variables("MARKS", argv[2], marks) || !variables("FLIPPED", argv[3], flipped) || !contents(argv[4], &length)) return 2;
     struct counts_reply r = clause_counts(sheet, length, 0, marks, flipped);
     if (r.number) {
         printf("refused %u place %u\n", r.number, r.place);
@@ -64,55 +86,73 @@ static int counts(char **argv)
     return 0;
 }
 
-/* The standing that a reply leaves, or the refusal. */
-static void standing(const char *after, struct tally_reply r, uint32_t marks, uint32_t unmet)
+static void print_marks(const uint32_t marks[ENGINE_WORDS])
 {
-    if (r.number)
+    printf(" marks");
+    for (int word = 0; word < ENGINE_WORDS; word++) printf(" %u", marks[word]);
+}
+
+/* The standing that a reply leaves, or the refusal. */
+static void standing(const char *after, struct tally_reply r, const uint32_t marks[ENGINE_WORDS], uint32_t unmet)
+{
+    if (r.number) {
         printf("%s refused %u place %u\n", after, r.number, r.place);
-    else
-        printf("%s marks %u false %u %s\n", after, marks, unmet, tally_holds(unmet) ? "all hold" : "not all hold");
+        return;
+    }
+    printf("%s", after);
+    print_marks(marks);
+    printf(" false %u %s\n", unmet, tally_holds(unmet) ? "all hold" : "not all hold");
 }
 
 /* One line for the beginning of a tally and for each toggle, and then one a clause. */
 static int tally(int argc, char **argv)
 {
     static uint8_t met[1024];
-    uint32_t marks[1] = { 0 }, unmet = 0, variable;
+    uint32_t marks[ENGINE_WORDS] = { 0 }, unmet = 0, variable;
     size_t length;
     for (int i = 3; i < argc; i++)
         if (!number("VARIABLE", argv[i], &variable)) return 2;
     if (!contents(argv[2], &length)) return 2;
     struct tally_reply r = tally_begin(sheet, length, marks, met, &unmet);
-    standing("begin", r, marks[0], unmet);
+    standing("begin", r, marks, unmet);
     if (r.number) return 0;
     for (int i = 3; i < argc; i++) {
         char after[32];
         number("VARIABLE", argv[i], &variable);
         snprintf(after, sizeof after, "toggle %u", variable);
         r = tally_toggle(sheet, length, variable, marks, met, &unmet);
-        standing(after, r, marks[0], unmet);
+        standing(after, r, marks, unmet);
     }
     for (uint32_t clause = 0, count = clauses(length); clause < count; clause++) printf("clause %u met %u\n", clause + 1, met[clause]);
     return 0;
 }
 
-int main(int argc, char **argv)
+/* The engine's answer, as `clearing` prints it. */
+static int decide(char **argv)
 {
     static const char *names[] = { "refused", "clear", "none", "spent" };
     uint32_t size, radius, budget;
     size_t length;
-    if (argc >= 3 && strcmp(argv[1], "tally") == 0) return tally(argc, argv);
-    if (argc != 5) {
-        fprintf(stderr, "usage: clear BLOCK_LENGTH RADIUS BUDGET FILE\n       clear counts MARKS FLIPPED FILE\n       clear tally FILE VARIABLE...\n");
-        return 2;
-    }
-    if (strcmp(argv[1], "counts") == 0) return counts(argv);
     if (!number("BLOCK_LENGTH", argv[1], &size) || !number("RADIUS", argv[2], &radius) || !number("BUDGET", argv[3], &budget)) return 2;
     if (!contents(argv[4], &length)) return 2;
     struct reply r = run(size, radius, budget, sheet, length);
-    if (r.verdict == ENGINE_REFUSED)
+    if (r.verdict == ENGINE_REFUSED) {
         printf("refused %u place %u\n", r.number, r.place);
-    else
-        printf("batch %u %s calls %u marks %u\n", r.batch, names[r.verdict], r.calls, r.marks);
+        return 0;
+    }
+    printf("batch %u %s calls %u", r.batch, names[r.verdict], r.calls);
+    print_marks(r.marks);
+    printf("\n");
     return 0;
+}
+
+int main(int argc, char **argv)
+{
+    if (argc >= 3 && strcmp(argv[1], "tally") == 0) return tally(argc, argv);
+    if (argc == 5) return strcmp(argv[1], "counts") == 0 ? counts(argv) : decide(argv);
+    fprintf(stderr, "usage: clear BLOCK_LENGTH RADIUS BUDGET FILE\n"
+                    "       clear counts MARKS FLIPPED FILE\n"
+                    "       clear tally FILE VARIABLE...\n"
+                    "MARKS and FLIPPED are one to four numbers, as 1,0,0,2147483648: variables 1 to 32 in the first, those left out 0\n");
+    return 2;
 }

@@ -1,6 +1,6 @@
-// An independent implementation of paper 01 and of papers 1, 2 and 4 of 02, compared with the proved library on many inputs: long
-// and short, valid and damaged, and for paper 2 tallies of the sheet, of other sheets, and of any numbers. It shares no code with
-// the crates. It prints how many answers of each kind agreed, and every disagreement.
+// An independent implementation of paper 01 and of papers 1, 2, 4 and 5 of 02, compared with the proved library on many inputs:
+// long and short, valid and damaged, with few variables and up to 128, and for paper 2 tallies of the sheet, of other sheets, and of
+// any numbers. It shares no code with the crates. It prints how many answers of each kind agreed, and every disagreement.
 
 use std::collections::{BTreeSet, HashMap};
 
@@ -9,7 +9,7 @@ use std::collections::{BTreeSet, HashMap};
 struct Reply {
     verdict: u32,
     batch: u32,
-    marks: u32,
+    marks: [u32; 4],
     calls: u32,
     number: u32,
     place: u32,
@@ -52,7 +52,7 @@ struct TallyReply {
 #[repr(C)]
 #[derive(Clone, PartialEq)]
 struct Lent {
-    marks: [u32; 1],
+    marks: [u32; 4],
     met: [u8; 1024],
     unmet: u32,
 }
@@ -78,7 +78,7 @@ fn library_run(plan: (u32, u32), budget: u32, sheet: &[u8]) -> Reply {
 
 // Where the two arrays are equal they are lent as one buffer.
 fn library_counts(sheet: &[u8], asked: &Question) -> CountsReply {
-    let (marks, flipped) = ([asked.marks], [asked.flipped]);
+    let (marks, flipped) = (split(asked.marks), split(asked.flipped));
     let second = if marks == flipped { &marks } else { &flipped };
     unsafe { library::clause_counts(sheet.as_ptr(), sheet.len(), asked.clause, marks.as_ptr(), second.as_ptr()) }
 }
@@ -131,46 +131,51 @@ fn read(bytes: &[u8]) -> Result<Sheet, Refused> {
         return Err((2, 0));
     }
     let words: Vec<u32> = bytes.chunks(4).map(|c| u32::from_le_bytes([c[0], c[1], c[2], c[3]])).collect();
-    let take = |at: usize, kind: u32, limit: u32| -> Result<u32, Refused> {
-        let word = words[at];
-        if word >> 30 != kind {
-            Err((3, at as u32))
-        } else if word & 0x3fff_ffff > limit {
-            Err((5, at as u32))
-        } else {
-            Ok(word & 0x3fff_ffff)
-        }
-    };
-    let high = take(0, 3, 65_535)?;
-    let low = take(1, 3, 65_535)?;
-    let n = take(2, 2, 32)?;
+    let high = take(&words, 0, 3, 65_535)?;
+    let low = take(&words, 1, 3, 65_535)?;
+    let n = take(&words, 2, 2, 128)?;
     let mut terms = Vec::new();
     let mut at = 3;
     while at < words.len() {
-        let length = take(at, 1, u32::MAX)?;
-        if length > 8 || terms.len() == 1024 {
+        let length = take(&words, at, 1, 8)?;
+        if terms.len() == 1024 {
             return Err((5, at as u32));
         }
-        at += 1;
-        let mut term: Vec<(u32, bool)> = Vec::new();
-        for _ in 0..length {
-            if at == words.len() {
-                return Err((4, at as u32));
-            }
-            let wish = take(at, 0, u32::MAX)?;
-            let variable = wish / 2;
-            if variable == 0 || variable > n {
-                return Err((6, at as u32));
-            }
-            if term.iter().any(|l| l.0 == variable) {
-                return Err((7, at as u32));
-            }
-            term.push((variable, wish % 2 == 0));
-            at += 1;
-        }
-        terms.push(term);
+        terms.push(read_term(&words, at + 1, length, n)?);
+        at += 1 + length as usize;
     }
     Ok(Sheet { batch: high * 65_536 + low, n, terms })
+}
+
+// The value of a word that is of the kind due there and within its limit.
+fn take(words: &[u32], at: usize, kind: u32, limit: u32) -> Result<u32, Refused> {
+    let value = words[at] & 0x3fff_ffff;
+    if words[at] >> 30 != kind {
+        Err((3, at as u32))
+    } else if value > limit {
+        Err((5, at as u32))
+    } else {
+        Ok(value)
+    }
+}
+
+fn read_term(words: &[u32], start: usize, length: u32, n: u32) -> Result<Vec<(u32, bool)>, Refused> {
+    let mut term: Vec<(u32, bool)> = Vec::new();
+    for at in start..start + length as usize {
+        if at == words.len() {
+            return Err((4, at as u32));
+        }
+        let wish = take(words, at, 0, u32::MAX)?;
+        let variable = wish / 2;
+        if variable == 0 || variable > n {
+            return Err((6, at as u32));
+        }
+        if term.iter().any(|l| l.0 == variable) {
+            return Err((7, at as u32));
+        }
+        term.push((variable, wish % 2 == 0));
+    }
+    Ok(term)
 }
 
 fn write(sheet: &Sheet) -> Vec<u8> {
@@ -182,32 +187,47 @@ fn write(sheet: &Sheet) -> Vec<u8> {
     words.iter().flat_map(|w| w.to_le_bytes()).collect()
 }
 
+// ---- assignments and sets of variables
+
+// Here each is one number, in which variable v has the v-th bit, the lowest being the first. It is lent, and comes back, as four
+// words, the lowest bits in the first.
+fn split(set: u128) -> [u32; 4] {
+    [set as u32, (set >> 32) as u32, (set >> 64) as u32, (set >> 96) as u32]
+}
+
+fn join(words: [u32; 4]) -> u128 {
+    words.iter().rev().fold(0, |set, word| set << 32 | *word as u128)
+}
+
+fn only(v: u32) -> u128 {
+    1 << (v - 1)
+}
+
+fn has(set: u128, v: u32) -> bool {
+    set & only(v) != 0
+}
+
 // ---- how a term stands
 
 // The number of a term, the marks, and the flipped variables.
 #[derive(Clone, Copy, Debug)]
 struct Question {
     clause: u32,
-    marks: u32,
-    flipped: u32,
+    marks: u128,
+    flipped: u128,
 }
 
-// Variable v has the v-th bit, the lowest being the first.
-fn bit(word: u32, v: u32) -> bool {
-    word >> (v - 1) & 1 == 1
+fn met(l: &(u32, bool), marks: u128) -> bool {
+    has(marks, l.0) == l.1
 }
 
-fn met(l: &(u32, bool), marks: u32) -> bool {
-    bit(marks, l.0) == l.1
-}
-
-fn is_true(term: &[(u32, bool)], marks: u32) -> bool {
+fn is_true(term: &[(u32, bool)], marks: u128) -> bool {
     term.iter().any(|l| met(l, marks))
 }
 
 // No flip that is left on the path can make it true. An empty term has nothing to flip.
-fn is_dead(term: &[(u32, bool)], marks: u32, flipped: u32) -> bool {
-    !is_true(term, marks) && term.iter().all(|l| bit(flipped, l.0))
+fn is_dead(term: &[(u32, bool)], marks: u128, flipped: u128) -> bool {
+    !is_true(term, marks) && term.iter().all(|l| has(flipped, l.0))
 }
 
 fn counts(sheet: &Result<Sheet, Refused>, asked: &Question) -> CountsReply {
@@ -222,7 +242,7 @@ fn counts(sheet: &Result<Sheet, Refused>, asked: &Question) -> CountsReply {
     for l in term {
         if met(l, asked.marks) {
             reply.met += 1;
-        } else if !bit(asked.flipped, l.0) {
+        } else if !has(asked.flipped, l.0) {
             reply.open += 1;
         }
     }
@@ -234,7 +254,7 @@ fn counts(sheet: &Result<Sheet, Refused>, asked: &Question) -> CountsReply {
 // and the zeros of the term without its flipped variables.
 fn sayings(term: &[(u32, bool)], asked: &Question, got: &CountsReply) -> [(bool, bool); 3] {
     type Part = Vec<(u32, bool)>;
-    let (gone, rest): (Part, Part) = term.iter().partition(|l| bit(asked.flipped, l.0));
+    let (gone, rest): (Part, Part) = term.iter().partition(|l| has(asked.flipped, l.0));
     let (ones, zeros): (Part, Part) = rest.iter().partition(|l| met(l, asked.marks));
     let both = [got.met as usize, got.open as usize];
     [
@@ -245,7 +265,7 @@ fn sayings(term: &[(u32, bool)], asked: &Question, got: &CountsReply) -> [(bool,
 }
 
 // Under the marks of a clear answer every term of the sheet has a literal that is met.
-fn clear_holds(bytes: &[u8], marks: u32) -> bool {
+fn clear_holds(bytes: &[u8], marks: u128) -> bool {
     let count = read(bytes).map_or(0, |sheet| sheet.terms.len() as u32);
     (0..count).all(|clause| library_counts(bytes, &Question { clause, marks, flipped: 0 }).met > 0)
 }
@@ -264,9 +284,9 @@ impl Input {
         Input { bytes, sheet }
     }
 
-    // Variables and terms; a sheet that is refused has 32 and none.
+    // Variables and terms; a sheet that is refused has 128 and none.
     fn n(&self) -> u32 {
-        self.sheet.as_ref().map_or(32, |sheet| sheet.n)
+        self.sheet.as_ref().map_or(128, |sheet| sheet.n)
     }
 
     fn terms(&self) -> &[Vec<(u32, bool)>] {
@@ -277,18 +297,18 @@ impl Input {
 // A tally in whole numbers, so that each limit is one that the paper names.
 #[derive(PartialEq)]
 struct Tally {
-    marks: u32,
+    marks: u128,
     met: [i64; 1024],
     unmet: i64,
 }
 
 impl Tally {
     fn of(lent: &Lent) -> Tally {
-        Tally { marks: lent.marks[0], met: lent.met.map(i64::from), unmet: lent.unmet as i64 }
+        Tally { marks: join(lent.marks), met: lent.met.map(i64::from), unmet: lent.unmet as i64 }
     }
 
     // Every term is read anew.
-    fn recount(sheet: &Sheet, marks: u32) -> Tally {
+    fn recount(sheet: &Sheet, marks: u128) -> Tally {
         let unmet = sheet.terms.iter().filter(|t| !is_true(t, marks)).count() as i64;
         let mut tally = Tally { marks, met: [0; 1024], unmet };
         for (i, term) in sheet.terms.iter().enumerate() {
@@ -313,7 +333,7 @@ impl Tally {
         if variable == 0 || variable > sheet.n {
             return TallyReply { number: 10, place: 0 };
         }
-        self.marks ^= 1 << (variable - 1);
+        self.marks ^= only(variable);
         for (i, term) in sheet.terms.iter().enumerate() {
             let Some(l) = term.iter().find(|l| l.0 == variable) else {
                 continue;
@@ -348,7 +368,7 @@ fn toggle_says(input: &Input, variable: u32, reply: &TallyReply, before: &Lent, 
         }
     };
     (1..=input.n()).contains(&variable)
-        && after.marks[0] ^ before.marks[0] == 1 << (variable - 1)
+        && join(after.marks) ^ join(before.marks) == only(variable)
         && (0..terms.len()).all(number)
         && after.met[terms.len()..] == before.met[terms.len()..]
         && (after.unmet == before.unmet || after.unmet <= 1024)
@@ -359,19 +379,19 @@ fn difference(expected: (TallyReply, &Tally), got: (TallyReply, &Lent), before: 
     let came = Tally::of(got.1);
     let differs = (0..1024).filter(|i| expected.1.met[*i] != came.met[*i]);
     let numbers: Vec<_> = differs.map(|i| (i, before.met[i], expected.1.met[i], came.met[i])).take(8).collect();
-    let one = |reply: TallyReply, tally: &Tally| format!("{:?} marks {} unmet {}", reply, tally.marks, tally.unmet);
-    let lent = format!("marks {} unmet {}", before.marks[0], before.unmet);
+    let one = |reply: TallyReply, tally: &Tally| format!("{:?} marks {:?} unmet {}", reply, split(tally.marks), tally.unmet);
+    let lent = format!("marks {:?} unmet {}", before.marks, before.unmet);
     format!("lent {}, expected {}, got {}, numbers {:?}", lent, one(expected.0, expected.1), one(got.0, &came), numbers)
 }
 
 // Whether a tally that begins on the sheet and toggles the variables of the marks says that all terms are true.
-fn tally_clears(bytes: &[u8], marks: u32) -> bool {
-    let mut lent = Lent { marks: [!marks], met: [5; 1024], unmet: 6 };
+fn tally_clears(bytes: &[u8], marks: u128) -> bool {
+    let mut lent = Lent { marks: split(!marks), met: [5; 1024], unmet: 6 };
     let mut fine = library_begin(bytes, &mut lent) == TallyReply::default();
-    for variable in (1..=32).filter(|v| bit(marks, *v)) {
+    for variable in (1..=128).filter(|v| has(marks, *v)) {
         fine &= library_toggle(bytes, variable, &mut lent) == TallyReply::default();
     }
-    fine && lent.marks[0] == marks && library_holds(lent.unmet) == 1
+    fine && join(lent.marks) == marks && library_holds(lent.unmet) == 1
 }
 
 // ---- the code, straight from its definition
@@ -420,13 +440,13 @@ struct Search<'a> {
 }
 
 enum Seen {
-    Found(u32),
+    Found(u128),
     No,
     Spent,
 }
 
 impl Search<'_> {
-    fn call(&mut self, marks: u32, flipped: u32, left: u32) -> Seen {
+    fn call(&mut self, marks: u128, flipped: u128, left: u32) -> Seen {
         if self.calls == self.budget {
             return Seen::Spent;
         }
@@ -442,11 +462,10 @@ impl Search<'_> {
             return Seen::No;
         }
         for l in term {
-            let bit = 1 << (l.0 - 1);
-            if flipped & bit != 0 {
+            if has(flipped, l.0) {
                 continue;
             }
-            match self.call(marks ^ bit, flipped | bit, left - 1) {
+            match self.call(marks ^ only(l.0), flipped | only(l.0), left - 1) {
                 Seen::No => {}
                 other => return other,
             }
@@ -458,7 +477,24 @@ impl Search<'_> {
 // Where a block begins, its radius, and its code.
 type Block = (u32, u32, Vec<u32>);
 
-// The next whole word, the word of the first block changing fastest. There is none after the last.
+fn blocks_of(codes: &mut Codes, plan: (u32, u32), n: u32) -> Vec<Block> {
+    let (b, s) = plan;
+    let mut blocks = Vec::new();
+    let mut at = 0;
+    while at < n {
+        let t = b.min(n - at);
+        blocks.push((at, s.min(t), codes.get(t, s.min(t))));
+        at += t;
+    }
+    blocks
+}
+
+fn whole_word(blocks: &[Block], digits: &[usize]) -> u128 {
+    blocks.iter().zip(digits).fold(0, |word, (block, digit)| word | (block.2[*digit] as u128) << block.0)
+}
+
+// The next whole word, the word of the first block changing fastest. There is none after the last. There may be 2^128 of them: they
+// are not numbered.
 fn advance(blocks: &[Block], digits: &mut [usize]) -> bool {
     for (block, digit) in blocks.iter().zip(digits) {
         *digit += 1;
@@ -470,9 +506,16 @@ fn advance(blocks: &[Block], digits: &mut [usize]) -> bool {
     false
 }
 
-// The reply, and whether paper 4 of 02 had a part in it.
-fn run(codes: &mut Codes, plan: (u32, u32), budget: u32, bytes: &[u8]) -> (Reply, bool) {
-    let refused = |r: Refused| (Reply { number: r.0, place: r.1, ..Reply::default() }, false);
+// What a run went through: the variables of the sheet, whether paper 4 of 02 had a part in it, and the bits of all words tried.
+#[derive(Default)]
+struct Notes {
+    n: u32,
+    later: bool,
+    words: u128,
+}
+
+fn run(codes: &mut Codes, plan: (u32, u32), budget: u32, bytes: &[u8]) -> (Reply, Notes) {
+    let refused = |r: Refused| (Reply { number: r.0, place: r.1, ..Reply::default() }, Notes::default());
     let (b, s) = plan;
     if b < 1 || b > 12 || s > b {
         return refused((8, 0));
@@ -481,26 +524,23 @@ fn run(codes: &mut Codes, plan: (u32, u32), budget: u32, bytes: &[u8]) -> (Reply
         Ok(sheet) => sheet,
         Err(r) => return refused(r),
     };
-    let mut blocks: Vec<Block> = Vec::new();
-    let mut at = 0;
-    while at < sheet.n {
-        let t = b.min(sheet.n - at);
-        blocks.push((at, s.min(t), codes.get(t, s.min(t))));
-        at += t;
-    }
+    let blocks = blocks_of(codes, plan, sheet.n);
     let radius = blocks.iter().map(|b| b.1).sum();
     let mut digits = vec![0usize; blocks.len()];
     let mut search = Search { sheet: &sheet, calls: 0, budget: budget as u64, later: false };
+    let mut words = 0;
     let (verdict, marks, calls) = loop {
-        let centre = blocks.iter().zip(&digits).fold(0u32, |c, (b, d)| c | b.2[*d] << b.0);
-        match search.call(centre, 0, radius) {
+        let word = whole_word(&blocks, &digits);
+        words |= word;
+        match search.call(word, 0, radius) {
             Seen::Found(marks) => break (1, marks, search.calls as u32),
             Seen::Spent => break (3, 0, budget),
             Seen::No if !advance(&blocks, &mut digits) => break (2, 0, search.calls as u32),
             Seen::No => {}
         }
     };
-    (Reply { verdict, batch: sheet.batch, marks, calls, number: 0, place: 0 }, search.later)
+    let reply = Reply { verdict, batch: sheet.batch, marks: split(marks), calls, number: 0, place: 0 };
+    (reply, Notes { n: sheet.n, later: search.later, words })
 }
 
 // ---- alike, and the operations on codes
@@ -528,56 +568,74 @@ fn relative(r: &mut Random, bytes: &[u8]) -> Vec<u8> {
             break;
         }
         let (i, j) = (r.below(count) as usize, r.below(count) as usize);
-        match r.below(5) {
+        match r.below(6) {
             0 => sheet.terms.swap(i, j),
             1 => sheet.terms[i].reverse(),
             2 if count < 1024 => sheet.terms.push(sheet.terms[j].clone()),
             3 => sheet.batch ^= 1,
-            _ if r.below(3) == 0 => drop(sheet.terms.remove(i)),
+            4 if r.below(3) == 0 => change_word(r, &mut sheet.terms[i], sheet.n),
+            5 if r.below(3) == 0 => drop(sheet.terms.remove(i)),
             _ => {}
         }
     }
-    sheet.n += (r.below(20) == 0 && sheet.n < 32) as u32;
+    sheet.n += (r.below(20) == 0 && sheet.n < 128) as u32;
     write(&sheet)
 }
 
-fn codes_agree(codes: &mut Codes) -> bool {
-    let binomial = |t: u64, i: u64| (0..i).fold(1u64, |c, k| if k < t { c * (t - k) / (k + 1) } else { 0 });
-    let mut fine = true;
-    for t in 0..=14u32 {
-        for s in 0..=14u32 {
-            let refused = |number| NumberReply { number, ..NumberReply::default() };
-            let bad = refused(8);
-            let volume = (0..=s as u64).map(|i| binomial(t as u64, i)).sum::<u64>() as u32;
-            let answer = |result| NumberReply { result, ..NumberReply::default() };
-            let measures = if t > 12 || s > 12 { (bad, bad) } else { (answer(volume), answer((1u32 << t).div_ceil(volume))) };
-            fine &= library_measures(t, s) == measures;
-            for cells in [1usize << t.min(12), (1 << t.min(12)) - 1, 4096] {
-                let mut table = vec![0xabcd; cells];
-                let mut after = table.clone();
-                let expected = if t < 1 || t > 12 || s > t {
-                    bad
-                } else if cells < 1 << t {
-                    refused(9)
-                } else {
-                    let words = codes.get(t, s);
-                    words.iter().enumerate().for_each(|(i, w)| after[i] = *w as u16);
-                    answer(words.len() as u32)
-                };
-                fine &= library_code(t, s, &mut table) == expected && table == after;
-            }
-        }
+// A literal goes to the variable at the same place of another word, if the term does not name it yet.
+fn change_word(r: &mut Random, term: &mut [(u32, bool)], n: u32) {
+    let other = r.range(0, 3) as u32 * 32;
+    let Some(first) = term.first() else {
+        return;
+    };
+    let variable = (first.0 - 1) % 32 + 1 + other;
+    if variable <= n && term.iter().all(|l| l.0 != variable) {
+        term[0].0 = variable;
     }
-    fine
+}
+
+fn codes_agree(codes: &mut Codes) -> bool {
+    (0..=14u32).all(|t| {
+        let tables = [1usize << t.min(12), (1 << t.min(12)) - 1, 4096];
+        (0..=14).all(|s| measures_agree(t, s) && tables.iter().all(|cells| code_agrees(codes, t, s, *cells)))
+    })
+}
+
+fn refused_number(number: u32) -> NumberReply {
+    NumberReply { number, ..NumberReply::default() }
+}
+
+fn measures_agree(t: u32, s: u32) -> bool {
+    let binomial = |t: u64, i: u64| (0..i).fold(1u64, |c, k| if k < t { c * (t - k) / (k + 1) } else { 0 });
+    let volume = (0..=s as u64).map(|i| binomial(t as u64, i)).sum::<u64>() as u32;
+    let answer = |result| NumberReply { result, ..NumberReply::default() };
+    let floor = (1u32 << t).div_ceil(volume);
+    let expected = if t > 12 || s > 12 { [refused_number(8); 2] } else { [answer(volume), answer(floor)] };
+    library_measures(t, s) == (expected[0], expected[1])
+}
+
+fn code_agrees(codes: &mut Codes, t: u32, s: u32, cells: usize) -> bool {
+    let mut table = vec![0xabcd; cells];
+    let mut after = table.clone();
+    let expected = if t < 1 || t > 12 || s > t {
+        refused_number(8)
+    } else if cells < 1 << t {
+        refused_number(9)
+    } else {
+        let words = codes.get(t, s);
+        words.iter().enumerate().for_each(|(i, w)| after[i] = *w as u16);
+        NumberReply { result: words.len() as u32, ..NumberReply::default() }
+    };
+    library_code(t, s, &mut table) == expected && table == after
 }
 
 // A null pointer with length 0 is an empty buffer.
 fn nothing_agrees() -> bool {
     let none = std::ptr::null();
     let run = unsafe { library::run(3, 1, 9, none, 0) };
-    let word = [5];
-    let counts = unsafe { library::clause_counts(none, 0, 0, word.as_ptr(), word.as_ptr()) };
-    let mut lent = Lent { marks: [3], met: [4; 1024], unmet: 5 };
+    let words = [5, 6, 7, 8];
+    let counts = unsafe { library::clause_counts(none, 0, 0, words.as_ptr(), words.as_ptr()) };
+    let mut lent = Lent { marks: words, met: [4; 1024], unmet: 5 };
     let Lent { marks, met, unmet } = &mut lent;
     let begun = unsafe { library::tally_begin(none, 0, marks.as_mut_ptr(), met.as_mut_ptr(), unmet) };
     let toggled = unsafe { library::tally_toggle(none, 0, 0, marks.as_mut_ptr(), met.as_mut_ptr(), unmet) };
@@ -586,7 +644,7 @@ fn nothing_agrees() -> bool {
     run == Reply { number: 2, ..Reply::default() }
         && counts == CountsReply { number: 2, ..CountsReply::default() }
         && [begun, toggled] == [TallyReply { number: 2, place: 0 }; 2]
-        && lent == Lent { marks: [3], met: [4; 1024], unmet: 5 }
+        && lent == Lent { marks: words, met: [4; 1024], unmet: 5 }
         && alike == AlikeReply { sheet: 1, number: 2, ..AlikeReply::default() }
         && code == NumberReply { number: 9, ..NumberReply::default() }
 }
@@ -616,75 +674,94 @@ fn sources_agree() -> bool {
 // ---- fixed runs
 
 // The plan, the budget, the number of variables, the clauses, and the reply: verdict (1 clear, 2 none, 3 spent), marks and calls.
-type Worked = ((u32, u32), u32, u32, &'static [&'static [i32]], (u32, u32, u32));
+type Worked = ((u32, u32), u32, u32, &'static [&'static [i32]], (u32, [u32; 4], u32));
 
-const WORKED: [Worked; 49] = [
+const WORKED: [Worked; 64] = [
     // the runs among the settled examples of paper 01
-    ((3, 1), 1, 0, &[], (1, 0, 1)),
-    ((3, 1), 9, 0, &[&[]], (2, 0, 1)),
-    ((3, 1), 9, 3, &[&[1, 2], &[-1, -3], &[-3]], (1, 1, 2)),
-    ((1, 1), 2, 1, &[&[1], &[-1]], (2, 0, 2)),
-    ((1, 1), 1, 1, &[&[1], &[-1]], (3, 0, 1)),
-    ((1, 0), 2, 1, &[&[1], &[-1]], (2, 0, 2)),
-    ((2, 1), 6, 2, &[&[1, 2], &[1, -2], &[-1, 2], &[-1, -2]], (2, 0, 6)),
-    ((2, 2), 5, 2, &[&[1, 2], &[1, -2], &[-1, 2], &[-1, -2]], (2, 0, 5)),
+    ((3, 1), 1, 0, &[], (1, [0; 4], 1)),
+    ((3, 1), 9, 0, &[&[]], (2, [0; 4], 1)),
+    ((3, 1), 9, 3, &[&[1, 2], &[-1, -3], &[-3]], (1, [1, 0, 0, 0], 2)),
+    ((1, 1), 2, 1, &[&[1], &[-1]], (2, [0; 4], 2)),
+    ((1, 1), 1, 1, &[&[1], &[-1]], (3, [0; 4], 1)),
+    ((1, 0), 2, 1, &[&[1], &[-1]], (2, [0; 4], 2)),
+    ((2, 1), 6, 2, &[&[1, 2], &[1, -2], &[-1, 2], &[-1, -2]], (2, [0; 4], 6)),
+    ((2, 2), 5, 2, &[&[1, 2], &[1, -2], &[-1, 2], &[-1, -2]], (2, [0; 4], 5)),
     // paper 4 of 02: with variable 1 flipped the last clause is dead, and the second is not tried
-    ((3, 3), 2, 3, &[&[1], &[2, 3], &[-1]], (2, 0, 2)),
-    ((3, 3), 1, 3, &[&[1], &[2, 3], &[-1]], (3, 0, 1)),
-    ((3, 3), 0, 3, &[&[1], &[2, 3], &[-1]], (3, 0, 0)),
-    ((3, 3), 3, 3, &[&[1], &[2, 3], &[-1]], (2, 0, 2)),
-    ((3, 3), u32::MAX, 3, &[&[1], &[2, 3], &[-1]], (2, 0, 2)),
+    ((3, 3), 2, 3, &[&[1], &[2, 3], &[-1]], (2, [0; 4], 2)),
+    ((3, 3), 1, 3, &[&[1], &[2, 3], &[-1]], (3, [0; 4], 1)),
+    ((3, 3), 0, 3, &[&[1], &[2, 3], &[-1]], (3, [0; 4], 0)),
+    ((3, 3), 3, 3, &[&[1], &[2, 3], &[-1]], (2, [0; 4], 2)),
+    ((3, 3), u32::MAX, 3, &[&[1], &[2, 3], &[-1]], (2, [0; 4], 2)),
     // its two balls, of words 0 and 1: the second starts with nothing flipped, and the last clause is false but not dead
-    ((3, 2), 7, 3, &[&[1], &[2, 3], &[-1]], (2, 0, 7)),
-    ((3, 2), 6, 3, &[&[1], &[2, 3], &[-1]], (3, 0, 6)),
+    ((3, 2), 7, 3, &[&[1], &[2, 3], &[-1]], (2, [0; 4], 7)),
+    ((3, 2), 6, 3, &[&[1], &[2, 3], &[-1]], (3, [0; 4], 6)),
     // here the last clause dies in the second ball only
-    ((3, 2), 7, 3, &[&[-1], &[2, 3], &[1]], (2, 0, 7)),
-    ((3, 2), 6, 3, &[&[-1], &[2, 3], &[1]], (3, 0, 6)),
+    ((3, 2), 7, 3, &[&[-1], &[2, 3], &[1]], (2, [0; 4], 7)),
+    ((3, 2), 6, 3, &[&[-1], &[2, 3], &[1]], (3, [0; 4], 6)),
     // with one flip, words 0 and 7, the flips run out where it is dead
-    ((3, 1), 9, 3, &[&[1], &[2, 3], &[-1]], (2, 0, 4)),
+    ((3, 1), 9, 3, &[&[1], &[2, 3], &[-1]], (2, [0; 4], 4)),
     // the first false clause has a flipped variable and others that are not; the last is dead
-    ((3, 3), 9, 3, &[&[1], &[-1, 2, 3], &[-1]], (2, 0, 2)),
+    ((3, 3), 9, 3, &[&[1], &[-1, 2, 3], &[-1]], (2, [0; 4], 2)),
     // the way back undoes the flip: the last clause is dead after variable 1 and true after 2
-    ((3, 3), 4, 3, &[&[1, 2], &[3], &[-1]], (1, 6, 4)),
-    ((3, 3), 3, 3, &[&[1, 2], &[3], &[-1]], (3, 0, 3)),
+    ((3, 3), 4, 3, &[&[1, 2], &[3], &[-1]], (1, [6, 0, 0, 0], 4)),
+    ((3, 3), 3, 3, &[&[1, 2], &[3], &[-1]], (3, [0; 4], 3)),
     // the last clause is dead only when both of its variables are flipped, in one block or in the first of two
-    ((4, 4), 9, 4, &[&[1], &[2], &[3, 4], &[-1, -2]], (2, 0, 3)),
-    ((2, 2), 9, 4, &[&[1], &[2], &[3, 4], &[-1, -2]], (2, 0, 3)),
-    ((4, 4), 2, 4, &[&[1], &[2], &[3, 4], &[-1, -2]], (3, 0, 2)),
+    ((4, 4), 9, 4, &[&[1], &[2], &[3, 4], &[-1, -2]], (2, [0; 4], 3)),
+    ((2, 2), 9, 4, &[&[1], &[2], &[3, 4], &[-1, -2]], (2, [0; 4], 3)),
+    ((4, 4), 2, 4, &[&[1], &[2], &[3, 4], &[-1, -2]], (3, [0; 4], 2)),
     // the last variable has the highest bit
-    ((1, 1), 9, 32, &[&[32], &[1, 2], &[-32]], (2, 0, 2)),
-    ((8, 8), 9, 32, &[&[32], &[1, 2], &[-32]], (2, 0, 2)),
+    ((1, 1), 9, 32, &[&[32], &[1, 2], &[-32]], (2, [0; 4], 2)),
+    ((8, 8), 9, 32, &[&[32], &[1, 2], &[-32]], (2, [0; 4], 2)),
     // an empty clause is dead at once wherever it stands, in each ball
-    ((2, 2), 9, 2, &[&[1], &[], &[2]], (2, 0, 1)),
-    ((2, 2), 1, 2, &[&[1], &[], &[2]], (2, 0, 1)),
-    ((2, 2), 0, 2, &[&[1], &[], &[2]], (3, 0, 0)),
-    ((2, 2), 9, 2, &[&[], &[1], &[2]], (2, 0, 1)),
-    ((2, 2), 9, 2, &[&[1], &[2], &[]], (2, 0, 1)),
-    ((2, 2), 9, 2, &[&[-1], &[2], &[]], (2, 0, 1)),
-    ((2, 1), 9, 2, &[&[1], &[], &[2]], (2, 0, 2)),
-    ((2, 1), 9, 2, &[&[1], &[2], &[]], (2, 0, 2)),
-    ((2, 1), 1, 2, &[&[1], &[2], &[]], (3, 0, 1)),
+    ((2, 2), 9, 2, &[&[1], &[], &[2]], (2, [0; 4], 1)),
+    ((2, 2), 1, 2, &[&[1], &[], &[2]], (2, [0; 4], 1)),
+    ((2, 2), 0, 2, &[&[1], &[], &[2]], (3, [0; 4], 0)),
+    ((2, 2), 9, 2, &[&[], &[1], &[2]], (2, [0; 4], 1)),
+    ((2, 2), 9, 2, &[&[1], &[2], &[]], (2, [0; 4], 1)),
+    ((2, 2), 9, 2, &[&[-1], &[2], &[]], (2, [0; 4], 1)),
+    ((2, 1), 9, 2, &[&[1], &[], &[2]], (2, [0; 4], 2)),
+    ((2, 1), 9, 2, &[&[1], &[2], &[]], (2, [0; 4], 2)),
+    ((2, 1), 1, 2, &[&[1], &[2], &[]], (3, [0; 4], 1)),
     // with radius 0 each of the words is one call, dead or not
-    ((2, 0), 9, 2, &[&[1], &[], &[2]], (2, 0, 4)),
-    ((2, 0), 3, 2, &[&[1], &[], &[2]], (3, 0, 3)),
-    ((1, 0), 9, 2, &[&[1], &[2], &[]], (2, 0, 4)),
-    ((3, 0), 9, 3, &[&[1], &[2, 3], &[-1]], (2, 0, 8)),
-    ((2, 0), 9, 2, &[&[1], &[2]], (1, 3, 4)),
+    ((2, 0), 9, 2, &[&[1], &[], &[2]], (2, [0; 4], 4)),
+    ((2, 0), 3, 2, &[&[1], &[], &[2]], (3, [0; 4], 3)),
+    ((1, 0), 9, 2, &[&[1], &[2], &[]], (2, [0; 4], 4)),
+    ((3, 0), 9, 3, &[&[1], &[2, 3], &[-1]], (2, [0; 4], 8)),
+    ((2, 0), 9, 2, &[&[1], &[2]], (1, [3, 0, 0, 0], 4)),
     // a true clause is not dead, though all its variables are flipped: one met literal is enough
-    ((2, 2), 9, 2, &[&[1], &[2]], (1, 3, 3)),
-    ((2, 2), 3, 2, &[&[1], &[2]], (1, 3, 3)),
-    ((2, 2), 2, 2, &[&[1], &[2]], (3, 0, 2)),
-    ((2, 1), 9, 2, &[&[1], &[2]], (1, 3, 4)),
-    ((3, 3), 9, 3, &[&[1], &[2], &[-1, 2], &[3]], (1, 7, 4)),
-    ((3, 3), 9, 3, &[&[1], &[2], &[2, -1], &[3]], (1, 7, 4)),
+    ((2, 2), 9, 2, &[&[1], &[2]], (1, [3, 0, 0, 0], 3)),
+    ((2, 2), 3, 2, &[&[1], &[2]], (1, [3, 0, 0, 0], 3)),
+    ((2, 2), 2, 2, &[&[1], &[2]], (3, [0; 4], 2)),
+    ((2, 1), 9, 2, &[&[1], &[2]], (1, [3, 0, 0, 0], 4)),
+    ((3, 3), 9, 3, &[&[1], &[2], &[-1, 2], &[3]], (1, [7, 0, 0, 0], 4)),
+    ((3, 3), 9, 3, &[&[1], &[2], &[2, -1], &[3]], (1, [7, 0, 0, 0], 4)),
     // a false clause with one variable that is not flipped is not dead, be it the first false one or a later one
-    ((2, 2), 9, 2, &[&[1], &[-1, 2]], (1, 3, 3)),
-    ((3, 3), 9, 3, &[&[1], &[3], &[-1, 2]], (1, 7, 4)),
-    ((3, 3), 9, 3, &[&[1], &[3], &[2, -1]], (1, 7, 4)),
+    ((2, 2), 9, 2, &[&[1], &[-1, 2]], (1, [3, 0, 0, 0], 3)),
+    ((3, 3), 9, 3, &[&[1], &[3], &[-1, 2]], (1, [7, 0, 0, 0], 4)),
+    ((3, 3), 9, 3, &[&[1], &[3], &[2, -1]], (1, [7, 0, 0, 0], 4)),
+    // paper 5 of 02: the model pays a variable of each word
+    ((8, 8), 9, 128, &[&[5], &[40], &[-5, 70], &[-70, 128]], (1, [1 << 4, 1 << 7, 1 << 5, 1 << 31], 5)),
+    ((8, 8), 5, 128, &[&[5], &[40], &[-5, 70], &[-70, 128]], (1, [1 << 4, 1 << 7, 1 << 5, 1 << 31], 5)),
+    ((8, 8), 4, 128, &[&[5], &[40], &[-5, 70], &[-70, 128]], (3, [0; 4], 4)),
+    // variables at the same place of two words are two: neither is flipped, paid or dead with the other
+    ((1, 1), 9, 128, &[&[1], &[-1, 33], &[-33, 65], &[-65, 97]], (1, [1; 4], 5)),
+    ((1, 1), 9, 97, &[&[97], &[-97, 65], &[-65, 33], &[-33, 1]], (1, [1; 4], 5)),
+    ((7, 7), 9, 128, &[&[32], &[-32, 64], &[-64, 96], &[-96, 128]], (1, [1 << 31; 4], 5)),
+    ((9, 9), 9, 128, &[&[16], &[-48], &[80], &[-112]], (1, [1 << 15, 0, 1 << 15, 0], 3)),
+    ((9, 9), 9, 128, &[&[-16], &[48], &[-80], &[112]], (1, [0, 1 << 15, 0, 1 << 15], 3)),
+    // the last clause is dead when all its variables are flipped, each in another word
+    ((6, 6), 9, 128, &[&[2], &[50], &[90], &[127], &[3, 4], &[-2, -50, -90, -127]], (2, [0; 4], 5)),
+    ((6, 6), 4, 128, &[&[2], &[50], &[90], &[127], &[3, 4], &[-2, -50, -90, -127]], (3, [0; 4], 4)),
+    ((1, 1), 9, 128, &[&[128], &[1, 2], &[-128]], (2, [0; 4], 2)),
+    // a word for each assignment, 2^128 of them, in their order as numbers
+    ((1, 0), 300, 128, &[&[9]], (1, [256, 0, 0, 0], 257)),
+    ((12, 0), 5000, 128, &[&[13]], (1, [4096, 0, 0, 0], 4097)),
+    ((12, 0), 4096, 128, &[&[13]], (3, [0; 4], 4096)),
+    ((5, 0), 3000, 128, &[&[128]], (3, [0; 4], 3000)),
 ];
 
 // The library and the search above both give the reply that was worked out by hand.
-fn replies(codes: &mut Codes, plan: (u32, u32), budget: u32, bytes: &[u8], worked: (u32, u32, u32)) -> bool {
+fn replies(codes: &mut Codes, plan: (u32, u32), budget: u32, bytes: &[u8], worked: (u32, [u32; 4], u32)) -> bool {
     let (verdict, marks, calls) = worked;
     let expected = Reply { verdict, batch: 2, marks, calls, number: 0, place: 0 };
     [library_run(plan, budget, bytes), run(codes, plan, budget, bytes).0] == [expected; 2]
@@ -694,22 +771,23 @@ fn counts_agree(codes: &mut Codes) -> bool {
     WORKED.iter().all(|(plan, budget, n, clauses, worked)| replies(codes, *plan, *budget, &written(*n, clauses), *worked))
 }
 
-const PAID: [i32; 8] = [1, 2, 3, 4, 5, 6, 7, 8];
-const HELD: [i32; 8] = [-1, -2, -3, -4, -5, -6, -7, -8];
-const KEPT: [i32; 8] = [-25, -26, -27, -28, -29, -30, -31, -32];
+// Both ends of each word.
+const ENDS: [i32; 8] = [1, 32, 33, 64, 65, 96, 97, 128];
+const HELD: [i32; 8] = [-1, -32, -33, -64, -65, -96, -97, -128];
+const KEPT: [i32; 8] = [-2, -31, -34, -63, -66, -95, -98, -127];
 
 // Clauses of all lengths that stay true, since nothing flips their variables.
 fn kept(count: usize) -> impl Iterator<Item = &'static [i32]> {
     (0..count).map(|i| &KEPT[..1 + i % 8])
 }
 
-// Clauses (1) to (length), one that is false until 9 or 10 is flipped, and one that holds what the first ones pay: it dies with the
-// last of their flips. Kept clauses stand before all, before the one that dies, and after it.
+// Clauses of one end each, one that is false until 48 or 80 is flipped, and one that holds what the first ones pay: it dies with the
+// last of their flips, which are in up to four words. Kept clauses stand before all, before the one that dies, and after it.
 fn dying(length: usize, kept_counts: [usize; 3]) -> Vec<u8> {
     let [before, between, after] = kept_counts.map(kept);
-    let false_clauses = PAID[..length].chunks(1).chain([&[9, 10][..]]);
+    let false_clauses = ENDS[..length].chunks(1).chain([&[48, 80][..]]);
     let clauses: Vec<&[i32]> = before.chain(false_clauses).chain(between).chain([&HELD[..length]]).chain(after).collect();
-    written(32, &clauses)
+    written(128, &clauses)
 }
 
 // Wherever in a sheet of up to 1,024 clauses the first false one and the dead one stand, the call after the last flip says no. An
@@ -720,7 +798,7 @@ fn places_agree(codes: &mut Codes) -> bool {
         let room = 1022 - length;
         let k = round.min(room);
         let sheets = [[0, k, 0], [k, 0, 0], [0, k, room - k]].map(|kept_counts| dying(length, kept_counts));
-        sheets.iter().all(|bytes| replies(codes, (1, 1), u32::MAX, bytes, (2, 0, length as u32 + 1)))
+        sheets.iter().all(|bytes| replies(codes, (1, 1), 99, bytes, (2, [0; 4], length as u32 + 1)))
     })
 }
 
@@ -730,70 +808,255 @@ fn repeats_agree(codes: &mut Codes) -> bool {
         let met = [vec![&[1][..]; k], vec![&[2]]].concat();
         let open = [vec![&[1][..], &[3]], vec![&[-1, 2]; k]].concat();
         let mut clear = |clauses: &[&[i32]], worked| replies(codes, (3, 3), u32::MAX, &written(3, clauses), worked);
-        clear(&met, (1, 3, 3)) && clear(&open, (1, 7, 4))
+        clear(&met, (1, [3, 0, 0, 0], 3)) && clear(&open, (1, [7, 0, 0, 0], 4))
     })
+}
+
+// ---- fixed cases of paper 5 of 02
+
+// The assignment that pays one of the ends alone, and the set that holds it alone.
+const ALONE: [[u32; 4]; 8] = [
+    [1, 0, 0, 0],
+    [0x8000_0000, 0, 0, 0],
+    [0, 1, 0, 0],
+    [0, 0x8000_0000, 0, 0],
+    [0, 0, 1, 0],
+    [0, 0, 0x8000_0000, 0],
+    [0, 0, 0, 1],
+    [0, 0, 0, 0x8000_0000],
+];
+
+// Each operation reads a sheet of up to 128 variables, and refuses the third word of any other.
+fn limits_agree(codes: &mut Codes) -> bool {
+    let refused = |number, place| TallyReply { number, place };
+    (0..=300).chain((9..30).map(|i| 1 << i)).chain([0x3fff_ffff]).all(|n| {
+        let bytes = written(n, &[&[]]);
+        let (number, place) = if n > 128 { (5, 2) } else { (0, 0) };
+        let mut lent = lend(([1, 2, 3, 4], &[5], 6));
+        let begun = [library_begin(&bytes, &mut lent), library_toggle(&bytes, 1, &mut lent)];
+        let toggled = if n == 0 { refused(10, 0) } else { refused(number, place) };
+        let alike = [library_alike(&bytes, &bytes), library_alike(&written(1, &[]), &bytes)];
+        let answers = if n > 128 { [(0, 1), (0, 2)] } else { [(1, 0), (2, 0)] };
+        let fine = if n > 128 {
+            let reply = Reply { number, place, ..Reply::default() };
+            lent == lend(([1, 2, 3, 4], &[5], 6)) && [library_run((1, 1), 9, &bytes), run(codes, (1, 1), 9, &bytes).0] == [reply; 2]
+        } else {
+            replies(codes, (1, 1), 9, &bytes, (2, [0; 4], 1))
+        };
+        fine && begun == [refused(number, place), toggled]
+            && alike == answers.map(|(answer, sheet)| AlikeReply { answer, sheet, number, place })
+    })
+}
+
+// A variable is 1 to n, whatever n is, and stands once in a clause, whatever other variables do.
+fn variables_agree() -> bool {
+    let none = Question { clause: 0, marks: 0, flipped: 0 };
+    let says = |n: u32, clause: &[i32], reply: CountsReply| {
+        let bytes = written(n, &[clause]);
+        [library_counts(&bytes, &none), counts(&read(&bytes), &none)] == [reply; 2]
+    };
+    let open = |open| CountsReply { open, ..CountsReply::default() };
+    let refused = |number, place| CountsReply { number, place, ..CountsReply::default() };
+    let single = |n: u32, v: u32| says(n, &[v as i32], if v == 0 || v > n { refused(6, 4) } else { open(1) });
+    let double = |u: i32, v: i32| {
+        let [both, one] = if u == v { [refused(7, 5); 2] } else { [open(2), CountsReply { met: 1, ..open(1) }] };
+        says(128, &[u, v], both) && says(128, &[u, -v], one)
+    };
+    (0..=128).all(|n| (0..=300).all(|v| single(n, v))) && (1..=128).all(|u| (1..=128).all(|v| double(u, v)))
+}
+
+// Both literals of each end, alone and together, in a sheet of 128 variables and in one where it is the last.
+fn ends_agree(codes: &mut Codes) -> bool {
+    let mut all = |n: u32, plan: (u32, u32), v: i32, alone: [u32; 4]| {
+        let mut says = |clauses: &[&[i32]], budget: u32, worked| replies(codes, plan, budget, &written(n, clauses), worked);
+        says(&[&[v]], 2, (1, alone, 2))
+            && says(&[&[v]], 1, (3, [0; 4], 1))
+            && says(&[&[-v]], 1, (1, [0; 4], 1))
+            && says(&[&[v], &[-v]], 2, (2, [0; 4], 2))
+            && says(&[&[-v], &[v]], 2, (2, [0; 4], 2))
+            && says(&[&[-v], &[v]], 1, (3, [0; 4], 1))
+    };
+    let mut end = |v: i32, alone| [(1, 1), (5, 5), (12, 12)].iter().all(|p| all(128, *p, v, alone) && all(v as u32, *p, v, alone));
+    ENDS.iter().zip(ALONE).all(|(v, alone)| end(*v, alone))
+}
+
+// No assignment meets the four clauses of two variables next to each other. From each code word they need 5 calls, as in paper 01.
+// The code of length 12 and radius 11 has the words 0 and 1, and the last block, of 8 variables, has one: 2^10 whole words.
+fn cores_agree(codes: &mut Codes) -> bool {
+    [(32, 33), (64, 65), (96, 97), (127, 128)].iter().all(|(u, v)| {
+        let bytes = written(128, &[&[*u, *v], &[*u, -v], &[-u, *v], &[-u, -v]]);
+        let mut none = |plan, calls| {
+            replies(codes, plan, calls, &bytes, (2, [0; 4], calls))
+                && replies(codes, plan, calls - 1, &bytes, (3, [0; 4], calls - 1))
+        };
+        none((1, 1), 5) && none((12, 12), 5) && none((12, 11), 5120)
+    })
+}
+
+// A sheet of 128 clauses with one literal each: the assignment is its only model. In a ball that does not hold it there is one path,
+// of as many flips as the radius allows.
+fn forced(words: [u32; 4]) -> Vec<u8> {
+    let paid = |i: usize| words[i / 32] >> (i % 32) & 1 == 1;
+    let literals: Vec<i32> = (0..128).map(|i| if paid(i) { i as i32 + 1 } else { -(i as i32) - 1 }).collect();
+    written(128, &literals.chunks(1).collect::<Vec<&[i32]>>())
+}
+
+// The plan, the model, the number of balls before the first that holds it, the radius, and how far it is from that word.
+type Forced = ((u32, u32), [u32; 4], u32, u32, u32);
+
+const FORCED: [Forced; 9] = [
+    // one ball with all variables
+    ((12, 12), [u32::MAX; 4], 0, 128, 128),
+    // words 0 and 1 in ten blocks, and in the last only 0: all variables are paid, and every word 1 is one flip fewer
+    ((12, 11), [u32::MAX; 4], 1023, 118, 118),
+    // words 0 and 2,047 in eleven blocks: the third, sixth and ninth lie across the ends of words
+    ((11, 5), [u32::MAX; 4], 127, 60, 51),
+    // 5 of each block are paid, so that neither word is nearer than 5, and all of one block, where 0 is too far
+    ((11, 5), [0xffc0_f81f, 0x0f81_f03f, 0x1f03_e07c, 0xf207_c0f8], 4, 60, 55),
+    ((11, 5), [0x07c0_f81f, 0xff81_f03e, 0x1f03_e07f, 0xf207_c0f8], 32, 60, 55),
+    ((11, 5), [0x07c0_f81f, 0x0f81_f03e, 0xff03_e07c, 0xf207_c0ff], 256, 60, 55),
+    // block 3, variables 25 to 36, has just the second word of two, 7ff, the third of 16, e0f, or the third of 32, 787; nothing is
+    // paid before it, and the blocks after it need all flips
+    ((12, 6), [0xff00_0000, 0xffff_fff7, 0xffff_ffff, 0x0000_003f], 4, 66, 66),
+    ((12, 4), [0x0f00_0000, 0xffff_fffe, 0x0000_ffff, 0x0000_0000], 512, 44, 44),
+    ((12, 3), [0x8700_0000, 0xffff_fff7, 0x0000_001f, 0x0000_0000], 2048, 33, 33),
+];
+
+fn forced_agree(codes: &mut Codes) -> bool {
+    FORCED.iter().all(|(plan, model, before, radius, far)| {
+        let bytes = forced(*model);
+        let calls = before * (radius + 1) + far + 1;
+        // the highest budget last, since a search that goes astray would take it all
+        replies(codes, *plan, calls - 1, &bytes, (3, [0; 4], calls - 1))
+            && replies(codes, *plan, calls, &bytes, (1, *model, calls))
+            && replies(codes, *plan, u32::MAX, &bytes, (1, *model, calls))
+    })
+}
+
+// The number of variables, the clause, the assignment, the flipped variables, and how many literals are met and open.
+type Standing = (u32, &'static [i32], [u32; 4], [u32; 4], (u32, u32));
+
+const MIXED: [i32; 8] = [1, -32, 33, -64, 65, -96, 97, -128];
+
+const STANDINGS: [Standing; 14] = [
+    (128, &ENDS, [0; 4], [0; 4], (0, 8)),
+    (128, &ENDS, [u32::MAX; 4], [0; 4], (8, 0)),
+    (128, &HELD, [0x8000_0001; 4], [0x8000_0001, 0, 0x8000_0001, 0], (0, 4)),
+    (128, &HELD, [0x8000_0001; 4], [0, 0x8000_0001, 0, 0x8000_0000], (0, 5)),
+    (128, &MIXED, [0; 4], [0; 4], (4, 4)),
+    (128, &MIXED, [0; 4], [0x7fff_fffe; 4], (4, 4)),
+    (128, &MIXED, [0x7fff_fffe; 4], [u32::MAX; 4], (4, 0)),
+    (128, &MIXED, [1, 0x8000_0000, 0, 0], [0, 0, 1, 0], (4, 3)),
+    (128, &MIXED, [0, 0, 1, 0x8000_0000], [0x8000_0000, 1, 0, 0x8000_0000], (4, 2)),
+    // bits that belong to no variable: from 98 on, from 34 on, and all
+    (97, &[97, -96, 33], [0, 0, 0, 0xffff_fffe], [0, 0, 0, 0xffff_fffe], (1, 2)),
+    (97, &[97, -96, 33], [0, 0, 0x8000_0000, u32::MAX], [u32::MAX, 0xffff_fffe, 0x7fff_ffff, 0xffff_fffe], (1, 2)),
+    (33, &[33, -1], [0xffff_fffe, 0xffff_fffe, u32::MAX, u32::MAX], [0, 0xffff_fffe, u32::MAX, u32::MAX], (1, 1)),
+    (33, &[33, -1], [1, 0, u32::MAX, u32::MAX], [1, 0, 0, 0], (0, 1)),
+    (0, &[], [u32::MAX; 4], [u32::MAX; 4], (0, 0)),
+];
+
+fn clauses_agree() -> bool {
+    let table = STANDINGS.iter().all(|(n, clause, marks, flipped, (met, open))| {
+        let bytes = written(*n, &[&[], clause]);
+        let asked = Question { clause: 1, marks: join(*marks), flipped: join(*flipped) };
+        [library_counts(&bytes, &asked), counts(&read(&bytes), &asked)]
+            == [CountsReply { met: *met, open: *open, ..CountsReply::default() }; 2]
+    });
+    let one = |v: i32, marks: [u32; 4], flipped: [u32; 4]| {
+        let reply = library_counts(&written(128, &[&[v]]), &Question { clause: 0, marks: join(marks), flipped: join(flipped) });
+        (reply.met, reply.open)
+    };
+    // the other ends, and all other variables, do not matter
+    let but = |set: [u32; 4]| set.map(|word| !word);
+    let ends = ENDS.iter().zip(ALONE).all(|(v, alone)| {
+        [one(*v, alone, alone), one(*v, but(alone), alone), one(*v, but(alone), but(alone))] == [(1, 0), (0, 0), (0, 1)]
+            && [one(-v, alone, alone), one(-v, but(alone), alone), one(-v, alone, but(alone))] == [(0, 0), (1, 0), (0, 1)]
+    });
+    table && ends
+}
+
+// Literals of two variables are two, also at the same place of two words, and so are 127 and 128 variables.
+fn pairs_agree() -> bool {
+    let literals: Vec<i32> = ENDS.into_iter().chain(HELD).chain(KEPT).collect();
+    let says = |a: &[u8], b: &[u8], answer: u32| [library_alike(a, b).answer, alike(a, b).answer] == [answer; 2];
+    let pair = |u: i32, v: i32| {
+        let [a, b] = [written(128, &[&[u], &[5, u]]), written(128, &[&[v, 5], &[v]])];
+        says(&a, &b, if u == v { 1 } else { 2 })
+    };
+    literals.iter().all(|u| literals.iter().all(|v| pair(*u, *v))) && says(&written(127, &[&[1]]), &written(128, &[&[1]]), 2)
 }
 
 // ---- fixed tallies
 
 // Marks, the first numbers, and unmet.
-type State = (u32, &'static [u8], u32);
+type State = ([u32; 4], &'static [u8], u32);
 
 // Past the first numbers every cell is 9.
 fn lend(state: State) -> Lent {
     let mut met = [9; 1024];
     met[..state.1.len()].copy_from_slice(state.1);
-    Lent { marks: [state.0], met, unmet: state.2 }
+    Lent { marks: state.0, met, unmet: state.2 }
 }
 
 // The number of variables, the clauses, what is lent, the variable, the number of the refusal, and what the toggle leaves.
 type Toggle = (u32, &'static [&'static [i32]], State, u32, u32, State);
 
-const TOGGLES: [Toggle; 29] = [
+const TOGGLES: [Toggle; 38] = [
     // with n 0 there is no variable to toggle
-    (0, &[], (5, &[], 4), 1, 10, (5, &[], 4)),
-    (0, &[&[]], (5, &[3], 4), 0, 10, (5, &[3], 4)),
+    (0, &[], ([5, 0, 0, 0], &[], 4), 1, 10, ([5, 0, 0, 0], &[], 4)),
+    (0, &[&[]], ([5, 0, 0, 0], &[3], 4), 0, 10, ([5, 0, 0, 0], &[3], 4)),
     // variable 0, the first above n, and far above, also where the low bits are those of variable 1
-    (2, &[&[1], &[2]], (1, &[1, 0], 1), 0, 10, (1, &[1, 0], 1)),
-    (2, &[&[1], &[2]], (1, &[1, 0], 1), 3, 10, (1, &[1, 0], 1)),
-    (32, &[&[1], &[2]], (1, &[1, 0], 1), 33, 10, (1, &[1, 0], 1)),
-    (2, &[&[1], &[2]], (1, &[1, 0], 1), 257, 10, (1, &[1, 0], 1)),
-    (2, &[&[1], &[2]], (1, &[1, 0], 1), 0x8000_0001, 10, (1, &[1, 0], 1)),
-    (2, &[&[1], &[2]], (1, &[1, 0], 1), u32::MAX, 10, (1, &[1, 0], 1)),
+    (2, &[&[1], &[2]], ([1, 0, 0, 0], &[1, 0], 1), 0, 10, ([1, 0, 0, 0], &[1, 0], 1)),
+    (2, &[&[1], &[2]], ([1, 0, 0, 0], &[1, 0], 1), 3, 10, ([1, 0, 0, 0], &[1, 0], 1)),
+    (32, &[&[1], &[2]], ([1, 0, 0, 0], &[1, 0], 1), 33, 10, ([1, 0, 0, 0], &[1, 0], 1)),
+    (127, &[&[1], &[2]], ([1, 0, 0, 0], &[1, 0], 1), 128, 10, ([1, 0, 0, 0], &[1, 0], 1)),
+    (128, &[&[1], &[2]], ([1, 0, 0, 0], &[1, 0], 1), 129, 10, ([1, 0, 0, 0], &[1, 0], 1)),
+    (2, &[&[1], &[2]], ([1, 0, 0, 0], &[1, 0], 1), 257, 10, ([1, 0, 0, 0], &[1, 0], 1)),
+    (2, &[&[1], &[2]], ([1, 0, 0, 0], &[1, 0], 1), 0x8000_0001, 10, ([1, 0, 0, 0], &[1, 0], 1)),
+    (2, &[&[1], &[2]], ([1, 0, 0, 0], &[1, 0], 1), u32::MAX, 10, ([1, 0, 0, 0], &[1, 0], 1)),
     // in sheet order: 0 loses one and stays, then gains one; counted at the end it would be 0
-    (1, &[&[1], &[-1]], (0, &[0, 1], 0), 1, 0, (1, &[1, 0], 1)),
+    (1, &[&[1], &[-1]], ([0; 4], &[0, 1], 0), 1, 0, ([1, 0, 0, 0], &[1, 0], 1)),
     // in sheet order: 1,024 gains one and stays, then loses one; counted at the end it would be 1,024
-    (1, &[&[-1], &[1]], (0, &[1, 0], 1024), 1, 0, (1, &[0, 1], 1023)),
+    (1, &[&[-1], &[1]], ([0; 4], &[1, 0], 1024), 1, 0, ([1, 0, 0, 0], &[0, 1], 1023)),
     // 5,000 stays where the variable is not named, and where a number moves but neither leaves 0 nor falls to it
-    (2, &[&[1]], (0, &[0], 5000), 2, 0, (2, &[0], 5000)),
-    (2, &[&[1, 2]], (2, &[1], 5000), 1, 0, (3, &[2], 5000)),
+    (2, &[&[1]], ([0; 4], &[0], 5000), 2, 0, ([2, 0, 0, 0], &[0], 5000)),
+    (2, &[&[1, 2]], ([2, 0, 0, 0], &[1], 5000), 1, 0, ([3, 0, 0, 0], &[2], 5000)),
     // 0 down is brought back to 0: it has not fallen
-    (1, &[&[-1]], (0, &[0], 5000), 1, 0, (1, &[0], 5000)),
+    (1, &[&[-1]], ([0; 4], &[0], 5000), 1, 0, ([1, 0, 0, 0], &[0], 5000)),
     // 5,000 is 1,024 after losing one, and after gaining one
-    (1, &[&[1]], (0, &[0], 5000), 1, 0, (1, &[1], 1024)),
-    (1, &[&[-1]], (0, &[1], 5000), 1, 0, (1, &[0], 1024)),
+    (1, &[&[1]], ([0; 4], &[0], 5000), 1, 0, ([1, 0, 0, 0], &[1], 1024)),
+    (1, &[&[-1]], ([0; 4], &[1], 5000), 1, 0, ([1, 0, 0, 0], &[0], 1024)),
     // the highest number gains one, and loses one
-    (1, &[&[-1]], (0, &[1], u32::MAX), 1, 0, (1, &[0], 1024)),
-    (1, &[&[1]], (0, &[0], u32::MAX), 1, 0, (1, &[1], 1024)),
+    (1, &[&[-1]], ([0; 4], &[1], u32::MAX), 1, 0, ([1, 0, 0, 0], &[0], 1024)),
+    (1, &[&[1]], ([0; 4], &[0], u32::MAX), 1, 0, ([1, 0, 0, 0], &[1], 1024)),
     // 1,025 loses one, and then 1,024 loses one
-    (1, &[&[1], &[1]], (0, &[0, 0], 1025), 1, 0, (1, &[1, 1], 1023)),
+    (1, &[&[1], &[1]], ([0; 4], &[0, 0], 1025), 1, 0, ([1, 0, 0, 0], &[1, 1], 1023)),
     // 0 loses one, and 1 loses two
-    (1, &[&[1]], (0, &[0], 0), 1, 0, (1, &[1], 0)),
-    (1, &[&[1], &[1]], (0, &[0, 0], 1), 1, 0, (1, &[1, 1], 0)),
+    (1, &[&[1]], ([0; 4], &[0], 0), 1, 0, ([1, 0, 0, 0], &[1], 0)),
+    (1, &[&[1], &[1]], ([0; 4], &[0, 0], 1), 1, 0, ([1, 0, 0, 0], &[1, 1], 0)),
     // 255 goes up to 256, and down to 254, before it is brought within the length
-    (2, &[&[1, 2]], (0, &[255], 3), 1, 0, (1, &[2], 3)),
-    (2, &[&[-1, 2]], (0, &[255], 3), 1, 0, (1, &[2], 3)),
+    (2, &[&[1, 2]], ([0; 4], &[255], 3), 1, 0, ([1, 0, 0, 0], &[2], 3)),
+    (2, &[&[-1, 2]], ([0; 4], &[255], 3), 1, 0, ([1, 0, 0, 0], &[2], 3)),
     // one above the length, up and down
-    (2, &[&[1, 2]], (0, &[3], 3), 1, 0, (1, &[2], 3)),
-    (2, &[&[-1, 2]], (0, &[3], 3), 1, 0, (1, &[2], 3)),
+    (2, &[&[1, 2]], ([0; 4], &[3], 3), 1, 0, ([1, 0, 0, 0], &[2], 3)),
+    (2, &[&[-1, 2]], ([0; 4], &[3], 3), 1, 0, ([1, 0, 0, 0], &[2], 3)),
     // a number above the length stays where the clause does not name the variable
-    (2, &[&[2], &[]], (0, &[200, 201], 3), 1, 0, (1, &[200, 201], 3)),
+    (2, &[&[2], &[]], ([0; 4], &[200, 201], 3), 1, 0, ([1, 0, 0, 0], &[200, 201], 3)),
     // all other bits of marks stay, also those above n
-    (1, &[&[1]], (0xffff_fffe, &[0], 1), 1, 0, (u32::MAX, &[1], 0)),
-    (1, &[&[1]], (u32::MAX, &[1], 0), 1, 0, (0xffff_fffe, &[0], 1)),
+    (1, &[&[1]], ([0xffff_fffe, 0, 0, 0], &[0], 1), 1, 0, ([u32::MAX, 0, 0, 0], &[1], 0)),
+    (1, &[&[1]], ([u32::MAX; 4], &[1], 0), 1, 0, ([0xffff_fffe, u32::MAX, u32::MAX, u32::MAX], &[0], 1)),
+    (33, &[&[33], &[1]], ([0, 6, 7, 8], &[0, 0], 2), 33, 0, ([0, 7, 7, 8], &[1, 0], 1)),
+    (64, &[&[-64]], ([5, u32::MAX, 7, 8], &[0], 1), 64, 0, ([5, 0x7fff_ffff, 7, 8], &[1], 0)),
+    (96, &[&[96, 1]], ([0, 0, 0, u32::MAX], &[0], 1), 96, 0, ([0, 0, 1 << 31, u32::MAX], &[1], 0)),
     // the last variable has the highest bit
-    (32, &[&[1, -32], &[32]], (0, &[1, 0], 1), 32, 0, (1 << 31, &[0, 1], 1)),
-    (32, &[&[1, -32], &[32]], (1 << 31, &[0, 1], 1), 32, 0, (0, &[1, 0], 1)),
+    (32, &[&[1, -32], &[32]], ([0; 4], &[1, 0], 1), 32, 0, ([1 << 31, 0, 0, 0], &[0, 1], 1)),
+    (32, &[&[1, -32], &[32]], ([1 << 31, 0, 0, 0], &[0, 1], 1), 32, 0, ([0; 4], &[1, 0], 1)),
+    (128, &[&[1, -128], &[128]], ([0; 4], &[1, 0], 1), 128, 0, ([0, 0, 0, 1 << 31], &[0, 1], 1)),
+    (128, &[&[1, -128], &[128]], ([0, 0, 0, 1 << 31], &[0, 1], 1), 128, 0, ([0; 4], &[1, 0], 1)),
+    // of four variables at the same place of the four words only one is named; no other number is at an end, where it would stay
+    (98, &[&[1, 2], &[33, 34], &[65], &[97, 98]], ([1, 1, 0, 1], &[1, 1, 0, 1], 1), 65, 0, ([1; 4], &[1; 4], 0)),
+    (98, &[&[-1, -2], &[-33], &[-65, 66], &[-97, -98]], ([1; 4], &[1, 0, 1, 1], 1), 33, 0, ([1, 0, 1, 1], &[1; 4], 0)),
 ];
 
 fn toggles_agree() -> bool {
@@ -818,7 +1081,7 @@ fn refusals_agree() -> bool {
         (vec![0; 8], 2, 0),
         (sheet(&[3 << 30]), 3, 3),
         (sheet(&[1 << 30 | 2, 2]), 4, 5),
-        (written(33, &[]), 5, 2),
+        (written(129, &[]), 5, 2),
         (sheet(&[1 << 30 | 9]), 5, 3),
         (sheet(&[1 << 30; 1025]), 5, 1027),
         (sheet(&[1 << 30 | 1, 6]), 6, 4),
@@ -826,9 +1089,9 @@ fn refusals_agree() -> bool {
     ];
     refused.iter().all(|(bytes, number, place)| {
         let expected = TallyReply { number: *number, place: *place };
-        let before = lend((6, &[1, 2, 3], 7));
+        let before = lend(([6, 7, 8, 9], &[1, 2, 3], 7));
         let mut got = before.clone();
-        let toggled = [0, 1, 2, 3, 33, u32::MAX].iter().all(|v| library_toggle(bytes, *v, &mut got) == expected);
+        let toggled = [0, 1, 2, 3, 33, 129, u32::MAX].iter().all(|v| library_toggle(bytes, *v, &mut got) == expected);
         toggled && library_begin(bytes, &mut got) == expected && got == before
     })
 }
@@ -836,11 +1099,33 @@ fn refusals_agree() -> bool {
 // A tally begins with marks 0 and the true numbers, whatever was lent.
 fn begins_agree() -> bool {
     let bytes = written(2, &[&[1, -2], &[-1], &[], &[1, 2], &[-1, -2]]);
-    let mut expected = Lent { marks: [0], met: [0; 1024], unmet: 2 };
+    let mut expected = Lent { marks: [0; 4], met: [0; 1024], unmet: 2 };
     expected.met[..5].copy_from_slice(&[1, 1, 0, 0, 2]);
-    [(0, 0), (3, 1), (u32::MAX, u32::MAX)].iter().all(|(marks, unmet)| {
+    [([0; 4], 0), ([3, 0, 5, 1], 1), ([u32::MAX; 4], u32::MAX)].iter().all(|(marks, unmet)| {
         let mut got = lend((*marks, &[8, 0, 255], *unmet));
         library_begin(&bytes, &mut got) == TallyReply::default() && got == expected
+    })
+}
+
+// Both ends of each word are paid one by one, and then held one by one. A clause of one end has its number, and no other moves.
+fn tally_ends_agree() -> bool {
+    [(&ENDS, 0, 8), (&HELD, 1, 0)].into_iter().all(|(literals, number, unmet)| {
+        let bytes = written(128, &literals.chunks(1).collect::<Vec<&[i32]>>());
+        let mut got = lend(([7, 8, 9, 10], &[], 11));
+        let mut own = Tally::of(&got);
+        let mut expected = Lent { marks: [0; 4], met: [0; 1024], unmet };
+        expected.met[..8].fill(number);
+        let begun = [library_begin(&bytes, &mut got), own.begin(&read(&bytes))];
+        let mut fine = begun == [TallyReply::default(); 2] && got == expected && own == Tally::of(&expected);
+        for i in (0..8).chain(0..8) {
+            expected.marks[i / 2] ^= ALONE[i][i / 2];
+            expected.met[i] = 1 - expected.met[i];
+            expected.unmet = expected.met[..8].iter().filter(|m| **m == 0).count() as u32;
+            let toggled = [library_toggle(&bytes, ENDS[i] as u32, &mut got), own.toggle(&read(&bytes), ENDS[i] as u32)];
+            fine &= toggled == [TallyReply::default(); 2] && got == expected && own == Tally::of(&expected);
+            fine &= library_holds(got.unmet) == (expected.unmet == 0) as u32;
+        }
+        fine
     })
 }
 
@@ -848,7 +1133,7 @@ fn begins_agree() -> bool {
 fn standings_agree() -> bool {
     let numbers = |clauses: &[&[i32]], toggles: &[u32]| -> Vec<u32> {
         let bytes = written(3, clauses);
-        let mut got = lend((8, &[], 77));
+        let mut got = lend(([8, 0, 0, 8], &[], 77));
         library_begin(&bytes, &mut got);
         let first = got.unmet;
         let mut after = |v: &u32| {
@@ -883,12 +1168,16 @@ impl Random {
     fn range(&mut self, low: u64, high: u64) -> u64 {
         low + self.below(high - low + 1)
     }
+    fn set(&mut self) -> u128 {
+        (self.next() as u128) << 64 | self.next() as u128
+    }
 }
 
-fn random_term(r: &mut Random, n: u32, length: u64) -> Vec<(u32, bool)> {
+// A term of variables among the named ones, which are at least as many.
+fn random_term(r: &mut Random, named: &[u32], length: u64) -> Vec<(u32, bool)> {
     let mut term: Vec<(u32, bool)> = Vec::new();
     while (term.len() as u64) < length {
-        let v = r.range(1, n as u64) as u32;
+        let v = named[r.below(named.len() as u64) as usize];
         if term.iter().all(|l| l.0 != v) {
             term.push((v, r.below(2) == 0));
         }
@@ -896,18 +1185,47 @@ fn random_term(r: &mut Random, n: u32, length: u64) -> Vec<(u32, bool)> {
     term
 }
 
+// More than 32, a third of the times one that fills a word, or is next to it.
+fn large_n(r: &mut Random) -> u32 {
+    match r.below(3) {
+        0 => [33, 63, 64, 65, 95, 96, 97, 126, 127, 128][r.below(10) as usize],
+        _ => r.range(33, 128) as u32,
+    }
+}
+
+// Up to so many of more than 32 variables: ends of words, neighbours in two words, the last ones, or any.
+fn few_variables(r: &mut Random, n: u32, count: u32) -> Vec<u32> {
+    let border = r.range(1, (n as u64 - 1) / 32) as u32 * 32;
+    let below = r.range(1, count as u64 - 1) as u32;
+    let some: BTreeSet<u32> = match r.below(4) {
+        0 => ENDS.iter().map(|v| *v as u32).collect(),
+        1 => (0..count).map(|i| border + 1 + i - below.min(border)).collect(),
+        2 => (n - count + 1..=n).collect(),
+        _ => (0..count).map(|_| r.range(1, n as u64) as u32).collect(),
+    };
+    some.into_iter().filter(|v| *v <= n).collect()
+}
+
+// With more than 32 variables most sheets name only a few of them, and the others have fewer terms for each: a run takes longer the
+// more there are, and is not more telling.
 fn random_sheet(r: &mut Random) -> Sheet {
-    let n = match r.below(4) {
-        0 => r.range(0, 4),
-        1 => r.range(0, 12),
-        _ => r.range(0, 32),
-    } as u32;
+    let n = match r.below(6) {
+        0 => r.range(0, 4) as u32,
+        1 => r.range(0, 12) as u32,
+        2 | 3 => r.range(0, 32) as u32,
+        _ => large_n(r),
+    };
+    let named = match r.below(3) {
+        0 | 1 if n > 32 => few_variables(r, n, 2 + n / 16),
+        _ => (1..=n).collect(),
+    };
+    let each = if named.len() > 32 { 2 } else { 6 };
     let count = match r.below(40) {
         0 => r.range(900, 1024),
         1..=8 => r.range(0, 3),
-        _ => r.range(0, 6 * n as u64 + 1),
+        _ => r.range(0, each * named.len() as u64 + 1),
     };
-    let longest = r.range(1, 8).min(n as u64);
+    let longest = r.range(1, 8).min(named.len() as u64);
     let mut terms: Vec<Vec<(u32, bool)>> = Vec::new();
     for _ in 0..count {
         if !terms.is_empty() && r.below(12) == 0 {
@@ -916,21 +1234,39 @@ fn random_sheet(r: &mut Random) -> Sheet {
             continue;
         }
         let length = if r.below(60) == 0 { 0 } else { r.range(longest.min(2), longest) };
-        terms.push(random_term(r, n, length));
+        terms.push(random_term(r, &named, length));
     }
     Sheet { batch: r.next() as u32, n, terms }
 }
 
 // Few variables in many short terms, none of them empty: flips that make one term true often leave a later one dead.
-fn dense_sheet(r: &mut Random) -> Sheet {
-    let n = r.range(3, 10) as u32;
-    let longest = r.range(2, 4).min(n as u64);
-    let count = r.range(n as u64, 5 * n as u64);
+fn dense_sheet(r: &mut Random, n: u32, named: &[u32]) -> Sheet {
+    let few = named.len() as u64;
+    let longest = r.range(2, 4).min(few);
+    let count = r.range(few, 5 * few);
     let mut term = || {
         let length = r.range(1, longest);
-        random_term(r, n, length)
+        random_term(r, named, length)
     };
     let terms = (0..count).map(|_| term()).collect();
+    Sheet { batch: r.next() as u32, n, terms }
+}
+
+// A sheet with one literal of each variable in a term of its own, and so with one model. The model is as far from one of the first
+// whole words as the radius allows, and mostly farther from those before it.
+fn forced_sheet(r: &mut Random, n: u32, blocks: &[Block]) -> Sheet {
+    let mut digits = vec![0usize; blocks.len()];
+    for _ in 0..(1 << r.below(10)) + r.below(10) {
+        advance(blocks, &mut digits);
+    }
+    let mut model = whole_word(blocks, &digits);
+    for (i, block) in blocks.iter().enumerate() {
+        let end = blocks.get(i + 1).map_or(n, |next| next.0);
+        let named: Vec<u32> = (block.0 + 1..=end).collect();
+        model = random_term(r, &named, block.1 as u64).iter().fold(model, |m, l| m ^ only(l.0));
+    }
+    let mut terms: Vec<_> = (1..=n).map(|v| vec![(v, has(model, v))]).collect();
+    (0..terms.len()).for_each(|i| terms.swap(i, r.below(n as u64) as usize));
     Sheet { batch: r.next() as u32, n, terms }
 }
 
@@ -942,19 +1278,27 @@ fn damage(r: &mut Random, bytes: &mut Vec<u8>) {
             1 => bytes.truncate(r.below(words + 1) as usize * 4),
             2 => bytes.extend((0..r.range(1, 9)).map(|_| r.0 as u8)),
             3 => (0..r.range(1, 4)).for_each(|_| bytes.extend((1u32 << 30).to_le_bytes())),
+            4 if words > 2 => bytes[8..12].copy_from_slice(&(2 << 30 | r.range(30, 131) as u32).to_le_bytes()),
             _ if words > 0 => {
-                let at = r.below(words) as usize * 4;
-                let word = match r.below(5) {
-                    0 => (r.below(4) as u32) << 30 | r.below(40) as u32,
-                    1 => r.below(70) as u32,
-                    2 => 1 << 30 | r.below(12) as u32,
-                    3 => u32::from_le_bytes([bytes[at], bytes[at + 1], bytes[at + 2], bytes[at + 3]]) ^ 1 << r.below(32),
-                    _ => r.next() as u32,
-                };
-                bytes[at..at + 4].copy_from_slice(&word.to_le_bytes());
+                let at = r.below(words) as usize;
+                let word = damaged_word(r, bytes, at);
+                bytes[at * 4..at * 4 + 4].copy_from_slice(&word.to_le_bytes());
             }
             _ => bytes.push(r.0 as u8),
         }
+    }
+}
+
+// Words and values near the limits, a literal of the variable before, the word with one bit changed, and any word.
+fn damaged_word(r: &mut Random, bytes: &[u8], at: usize) -> u32 {
+    let word = |i: usize| u32::from_le_bytes([bytes[i * 4], bytes[i * 4 + 1], bytes[i * 4 + 2], bytes[i * 4 + 3]]);
+    match r.below(6) {
+        0 => (r.below(4) as u32) << 30 | r.below(140) as u32,
+        1 => r.below([70, 262][at % 2]) as u32,
+        2 => 1 << 30 | r.below(12) as u32,
+        3 => word(at) ^ 1 << r.below(32),
+        4 => word(at.saturating_sub(1)) ^ r.below(2) as u32,
+        _ => r.next() as u32,
     }
 }
 
@@ -963,9 +1307,10 @@ fn random_bytes(r: &mut Random) -> Vec<u8> {
         0..=3 => (0..r.below(64)).map(|_| r.next() as u8).collect(),
         4 => vec![0; r.range(36_860, 36_900) as usize],
         5 => {
-            let mut full = Sheet { batch: 7, n: 32, terms: Vec::new() };
+            let n = [32, 128][r.below(2) as usize];
+            let mut full = Sheet { batch: 7, n, terms: Vec::new() };
             for i in 0..r.range(1022, 1026) {
-                full.terms.push((0..8).map(|j| ((i as u32 + j) % 32 + 1, i % 3 == 0)).collect());
+                full.terms.push((0..8).map(|j| ((i as u32 + j) % n + 1, i % 3 == 0)).collect());
             }
             write(&full)
         }
@@ -990,6 +1335,18 @@ fn random_plan(r: &mut Random) -> (u32, u32) {
     (b, s)
 }
 
+// A plan with few balls for so many variables, so that a search of few variables comes to its end.
+fn few_balls(r: &mut Random, codes: &mut Codes, n: u32) -> (u32, u32) {
+    let b = if r.below(6) == 0 { r.range(9, 12) } else { r.range(1, 8) } as u32;
+    let s = r.range(b as u64 / 2, b as u64) as u32;
+    let balls = blocks_of(codes, (b, s), n).iter().fold(1u64, |m, block| m.saturating_mul(block.2.len() as u64));
+    if balls <= 4096 {
+        (b, s)
+    } else {
+        (b, b)
+    }
+}
+
 // Two terms of the sheet, and for an eighth of the sheets also the first, the last, and two past the last. A sheet that is
 // refused has no terms: there the numbers are those of 1,024 terms.
 fn random_clauses(r: &mut Random, sheet: &Result<Sheet, Refused>) -> Vec<u32> {
@@ -1001,20 +1358,20 @@ fn random_clauses(r: &mut Random, sheet: &Result<Sheet, Refused>) -> Vec<u32> {
     clauses
 }
 
-// Marks and flipped variables of all 32 bits, whatever the sheet has. A quarter of the sets spares the literals that are met.
+// Marks and flipped variables of all 128 bits, whatever the sheet has. A quarter of the sets spares the literals that are met.
 fn random_question(r: &mut Random, clause: u32, term: &[(u32, bool)]) -> Question {
     let marks = match r.below(12) {
         0 => 0,
-        1 => u32::MAX,
-        _ => r.next() as u32,
+        1 => u128::MAX,
+        _ => r.set(),
     };
-    let some = r.next() as u32;
-    let spared = term.iter().filter(|l| met(l, marks)).fold(some, |f, l| f & !(1 << (l.0 - 1)));
+    let some = r.set();
+    let spared = term.iter().filter(|l| met(l, marks)).fold(some, |f, l| f & !only(l.0));
     let flipped = match r.below(8) {
         0 => 0,
-        1 => u32::MAX,
+        1 => u128::MAX,
         2 => marks,
-        3 => some & r.next() as u32,
+        3 => some & r.set(),
         4 | 5 => spared,
         _ => some,
     };
@@ -1022,15 +1379,15 @@ fn random_question(r: &mut Random, clause: u32, term: &[(u32, bool)]) -> Questio
 }
 
 // For a half of the toggles a variable of a false term, if there is one, so that sheets come to hold. A few name no variable.
-fn random_variable(r: &mut Random, input: &Input, marks: u32) -> u32 {
+fn random_variable(r: &mut Random, input: &Input, marks: u128) -> u32 {
     let n = input.n();
     let lost = input.terms().iter().find(|t| !t.is_empty() && !is_true(t, marks));
     match (r.below(40), lost) {
         (0, _) => 0,
         (1, _) => n + 1,
         (2, _) => u32::MAX - r.below(3) as u32,
-        (3, _) => r.range(1, 70) as u32,
-        (4, _) => 1 << r.below(32) | r.below(33) as u32,
+        (3, _) => r.range(1, 140) as u32,
+        (4, _) => 1 << r.below(32) | r.below(129) as u32,
         (5..=20, Some(term)) => term[r.below(term.len() as u64) as usize].0,
         _ => r.range(1, n.max(1) as u64) as u32,
     }
@@ -1046,7 +1403,7 @@ fn random_lent(r: &mut Random) -> Lent {
         8 => r.below(1025) as u32,
         _ => r.next() as u32,
     };
-    let mut lent = Lent { marks: [r.next() as u32], met: [0; 1024], unmet };
+    let mut lent = Lent { marks: split(r.set()), met: [0; 1024], unmet };
     lent.met.fill_with(|| some[r.below(16) as usize]);
     lent
 }
@@ -1060,12 +1417,19 @@ fn random_family(r: &mut Random, bytes: &[u8]) -> [Input; 4] {
 
 // ---- the comparison
 
-// How many answers of each kind there were, how often each saying applied, and how many disagreements. Of kinds and later the first
-// numbers are those of the inputs, the second those of the dense sheets.
+// Where the sheet of a run comes from.
+const STREAMS: [&str; 4] = ["inputs", "dense sheets", "spread sheets", "forced sheets"];
+
+// How many answers of each kind there were, how often each saying applied, and how many disagreements. Kinds, large and later are
+// numbers of each stream: all answers, those for more than 32 variables, and those with a dead term after the first false one. For
+// each of the four words of an assignment, tried counts the runs with a code word that has bits there, and paid such clear answers.
 #[derive(Default)]
 struct Totals {
-    kinds: [[u64; 4]; 2],
-    later: [[u64; 4]; 2],
+    kinds: [[u64; 4]; 4],
+    large: [[u64; 4]; 4],
+    later: [[u64; 4]; 4],
+    tried: [u64; 4],
+    paid: [u64; 4],
     numbers: [u64; 10],
     pairs: [u64; 3],
     terms: [u64; 4],
@@ -1091,10 +1455,18 @@ impl Totals {
         self.check(counts_agree(codes), || "a fixed run differs".into());
         self.check(places_agree(codes), || "a run with a dead term at some place differs".into());
         self.check(repeats_agree(codes), || "a run with a repeated term differs".into());
+        self.check(limits_agree(codes), || "the limit on the number of variables differs".into());
+        self.check(variables_agree(), || "the reading of a variable differs".into());
+        self.check(ends_agree(codes), || "a run with a literal at the end of a word differs".into());
+        self.check(cores_agree(codes), || "a run without a model across two words differs".into());
+        self.check(forced_agree(codes), || "a run with one model in four words differs".into());
+        self.check(clauses_agree(), || "how a fixed term stands differs".into());
+        self.check(pairs_agree(), || "a fixed pair differs".into());
         self.check(nothing_agrees(), || "an answer to an empty buffer differs".into());
         self.check(codes_agree(codes), || "codes, volumes or floors differ".into());
         self.check(begins_agree(), || "the beginning of a fixed tally differs".into());
         self.check(toggles_agree(), || "a fixed toggle differs".into());
+        self.check(tally_ends_agree(), || "a fixed tally at the end of a word differs".into());
         self.check(refusals_agree(), || "a refusal of a fixed tally differs".into());
         self.check(standings_agree(), || "what a fixed tally says of all terms differs".into());
     }
@@ -1118,27 +1490,59 @@ impl Totals {
     fn dense(&mut self, r: &mut Random, codes: &mut Codes) {
         let b = r.range(2, 8);
         let plan = (b as u32, r.range(2, b) as u32);
-        let bytes = write(&dense_sheet(r));
+        let n = r.range(3, 10) as u32;
+        let bytes = write(&dense_sheet(r, n, &(1..=n).collect::<Vec<u32>>()));
         self.compare(r, codes, 1, (plan, 3000), &bytes);
+    }
+
+    // A dense sheet whose variables are spread over the words.
+    fn spread(&mut self, r: &mut Random, codes: &mut Codes) {
+        let n = large_n(r);
+        let plan = few_balls(r, codes, n);
+        let count = r.range(3, 10) as u32;
+        let named = few_variables(r, n, count);
+        let bytes = write(&dense_sheet(r, n, &named));
+        self.compare(r, codes, 2, (plan, 10_000), &bytes);
+    }
+
+    // Blocks of many lengths lie across the ends of words, and whole words with bits there are tried before the model is found. It
+    // takes at most 522 balls of 129 calls.
+    fn forced(&mut self, r: &mut Random, codes: &mut Codes) {
+        let n = large_n(r);
+        let b = r.range(2, 12) as u32;
+        let plan = (b, r.range(b as u64 / 3, b as u64 - 1) as u32);
+        let bytes = write(&forced_sheet(r, n, &blocks_of(codes, plan, n)));
+        self.compare(r, codes, 3, (plan, 100_000), &bytes);
     }
 
     // The first of asked is the plan, the second the budget. The answer of the library is handed on.
     fn compare(&mut self, r: &mut Random, codes: &mut Codes, stream: usize, asked: ((u32, u32), u32), bytes: &[u8]) -> Reply {
         let (plan, mut budget) = asked;
-        let (mut expected, mut later) = run(codes, plan, budget, bytes);
+        let (mut expected, mut notes) = run(codes, plan, budget, bytes);
         if expected.verdict != 0 && expected.verdict != 3 && r.below(2) == 0 {
             // the last call needed is not one too many, and one call fewer is not enough
             budget = expected.calls - r.below(2) as u32;
-            (expected, later) = run(codes, plan, budget, bytes);
+            (expected, notes) = run(codes, plan, budget, bytes);
         }
         let got = library_run(plan, budget, bytes);
-        self.kinds[stream][expected.verdict as usize] += 1;
-        self.later[stream][expected.verdict as usize] += later as u64;
-        self.numbers[expected.number as usize] += 1;
+        self.note(stream, &expected, &notes);
         self.check(got == expected, || {
             format!("plan {:?} budget {} sheet {:?}: expected {:?}, got {:?}", plan, budget, bytes, expected, got)
         });
         got
+    }
+
+    fn note(&mut self, stream: usize, reply: &Reply, notes: &Notes) {
+        let verdict = reply.verdict as usize;
+        self.kinds[stream][verdict] += 1;
+        self.large[stream][verdict] += (notes.n > 32) as u64;
+        self.later[stream][verdict] += notes.later as u64;
+        self.numbers[reply.number as usize] += 1;
+        let tried = split(notes.words);
+        for i in 0..4 {
+            self.tried[i] += (tried[i] != 0) as u64;
+            self.paid[i] += (reply.marks[i] != 0) as u64;
+        }
     }
 
     fn terms(&mut self, r: &mut Random, bytes: &[u8]) {
@@ -1157,10 +1561,11 @@ impl Totals {
         }
     }
 
-    fn cleared(&mut self, bytes: &[u8], marks: u32) {
+    fn cleared(&mut self, bytes: &[u8], marks: [u32; 4]) {
         self.cleared += 1;
-        self.check(clear_holds(bytes, marks), || format!("clear with marks {} sheet {:?}: a term has none met", marks, bytes));
-        self.check(tally_clears(bytes, marks), || format!("clear with marks {} sheet {:?}: the tally says no", marks, bytes));
+        let [terms, tally] = [clear_holds(bytes, join(marks)), tally_clears(bytes, join(marks))];
+        self.check(terms, || format!("clear with marks {:?} sheet {:?}: a term has none met", marks, bytes));
+        self.check(tally, || format!("clear with marks {:?} sheet {:?}: the tally says no", marks, bytes));
     }
 
     fn begin(&mut self, input: &Input, lent: &mut Lent) {
@@ -1198,11 +1603,11 @@ impl Totals {
     }
 
     fn full_reading(&mut self, sheet: &Sheet, lent: &Lent) {
-        let marks = lent.marks[0];
+        let marks = join(lent.marks);
         let all = sheet.terms.iter().all(|t| is_true(t, marks));
         self.holding += all as u64;
         let fine = Tally::of(lent) == Tally::recount(sheet, marks) && library_holds(lent.unmet) == all as u32;
-        self.check(fine, || format!("marks {} unmet {} are not those of {:?}", marks, lent.unmet, sheet));
+        self.check(fine, || format!("marks {:?} unmet {} are not those of {:?}", lent.marks, lent.unmet, sheet));
     }
 
     // A tally begun on the sheet and toggled there, a quarter of the times twice running.
@@ -1211,7 +1616,7 @@ impl Totals {
         self.begin(input, &mut lent);
         for _ in 0..steps {
             let before = lent.clone();
-            let variable = random_variable(r, input, lent.marks[0]);
+            let variable = random_variable(r, input, join(lent.marks));
             self.toggle(input, variable, &mut lent, true);
             if r.below(4) == 0 {
                 self.toggle(input, variable, &mut lent, true);
@@ -1229,7 +1634,7 @@ impl Totals {
                 *lent = random_lent(r);
             }
             let input = &inputs[r.below(10) as usize / 3];
-            let variable = random_variable(r, input, lent.marks[0]);
+            let variable = random_variable(r, input, join(lent.marks));
             self.toggle(input, variable, lent, false);
             if r.below(20) == 0 {
                 self.begin(&inputs[r.below(4) as usize], lent);
@@ -1248,11 +1653,15 @@ impl Totals {
     }
 
     fn print(&self, inputs: u64) {
-        let Totals { kinds: [kinds, dense], later, numbers, pairs, terms, sayings, begun, toggles, .. } = self;
-        println!("{} inputs: refused {} clear {} none {} spent {}", inputs, kinds[0], kinds[1], kinds[2], kinds[3]);
-        println!("{} dense sheets: clear {} none {} spent {}", dense.iter().sum::<u64>(), dense[1], dense[2], dense[3]);
-        let [some, more] = later.map(|l| l[1] + l[2]);
-        println!("clear or none with a dead term after the first false one: inputs {} dense sheets {}", some, more);
+        let Totals { numbers, pairs, terms, sayings, begun, toggles, .. } = self;
+        for (i, name) in STREAMS.iter().enumerate() {
+            let [refused, clear, none, spent] = self.kinds[i];
+            let all = refused + clear + none + spent;
+            println!("{} {}: refused {} clear {} none {} spent {}", all, name, refused, clear, none, spent);
+            println!("    with n above 32: clear {} none {} spent {}", self.large[i][1], self.large[i][2], self.large[i][3]);
+            println!("    clear or none with a dead term after the first false one: {}", self.later[i][1] + self.later[i][2]);
+        }
+        println!("with bits in words 1 to 4: runs whose code words have them {:?} clear answers {:?}", self.tried, self.paid);
         println!("refusals 1 to 8: {:?}", &numbers[1..9]);
         println!("pairs: refused {} alike {} different {}", pairs[0], pairs[1], pairs[2]);
         println!("terms: refused {} past the last {} false {} true {}", terms[0], terms[1], terms[2], terms[3]);
@@ -1270,6 +1679,7 @@ fn main() {
     let mut questions = Random(0x2545_f491_4f6c_dd1d);
     let mut touches = Random(0xd1b5_4a32_d192_ed03);
     let mut flips = Random(0xa076_1d64_78bd_642f);
+    let mut spreads = Random(0xe703_7ed1_a0b4_28db);
     let mut codes = Codes(HashMap::new());
     let mut totals = Totals::default();
     totals.fixed(&mut codes);
@@ -1289,6 +1699,12 @@ fn main() {
         }
         if flips.below(4) == 0 {
             totals.dense(&mut flips, &mut codes);
+        }
+        if spreads.below(5) == 0 {
+            totals.spread(&mut spreads, &mut codes);
+        }
+        if spreads.below(25) == 0 {
+            totals.forced(&mut spreads, &mut codes);
         }
     }
     totals.print(inputs);

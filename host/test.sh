@@ -10,6 +10,7 @@ rt staticlib engine >target/host/staticlib.log 2>&1 || {
 }
 gcc -O2 -Wall -Wextra -Werror host/clear.c target/staticlib/libengine.a -o target/host/clear
 tail -c +13 crates/clearing/stdin >target/host/sheet
+echo 'batch 7 n 128 (1 32 33 64) (65 96 97 128) (-33 -128)' | tools/sheet write - -o target/host/wide
 
 # The host prints this line for these arguments.
 prints() {
@@ -34,7 +35,8 @@ declines() {
 
 prints "$(cat crates/clearing/stdout)" 3 1 9 target/host/sheet
 prints "$(cat crates/clearing/stdout)" 3 1 4294967295 target/host/sheet
-prints "batch 70000 spent calls 1 marks 0" 03 1 1 target/host/sheet
+prints "batch 70000 spent calls 1 marks 0 0 0 0" 03 1 1 target/host/sheet
+prints "batch 7 clear calls 3 marks 1 0 1 0" 1 1 3 target/host/wide
 prints "refused 8 place 0" 4294967295 1 9 target/host/sheet
 prints "clause 1 met 1 open 1
 clause 2 met 1 open 0
@@ -42,15 +44,40 @@ clause 3 met 1 open 0" counts 1 1 target/host/sheet
 prints "clause 1 met 0 open 2
 clause 2 met 2 open 0
 clause 3 met 1 open 0" counts 0 0 target/host/sheet
+prints "clause 1 met 0 open 2
+clause 2 met 2 open 0
+clause 3 met 1 open 0" counts 0,0,0,0 00,0 target/host/sheet
+# bits of no variable do not matter
+prints "clause 1 met 1 open 1
+clause 2 met 1 open 0
+clause 3 met 1 open 0" counts 1,4294967295,4294967295,4294967295 4294967289,1,1,1 target/host/sheet
+# 33 is paid, 128 flipped
+prints "clause 1 met 1 open 3
+clause 2 met 0 open 3
+clause 3 met 1 open 1" counts 0,1 0,0,0,2147483648 target/host/wide
+# 32, 65 and 128 are paid, 1, 33 and 97 flipped
+prints "clause 1 met 1 open 1
+clause 2 met 2 open 1
+clause 3 met 1 open 1" counts 2147483648,0,1,2147483648 1,1,0,1 target/host/wide
 prints "refused 2 place 0" counts 0 0 /dev/null
-prints "begin marks 0 false 1 not all hold
-toggle 1 marks 1 false 0 all hold
-toggle 3 marks 5 false 2 not all hold
+prints "begin marks 0 0 0 0 false 1 not all hold
+toggle 1 marks 1 0 0 0 false 0 all hold
+toggle 3 marks 5 0 0 0 false 2 not all hold
 toggle 4 refused 10 place 0
-toggle 3 marks 1 false 0 all hold
+toggle 3 marks 1 0 0 0 false 0 all hold
 clause 1 met 1
 clause 2 met 1
 clause 3 met 1" tally target/host/sheet 1 3 4 3
+prints "begin marks 0 0 0 0 false 2 not all hold
+toggle 128 marks 0 0 0 2147483648 false 1 not all hold
+toggle 33 marks 0 1 0 2147483648 false 1 not all hold
+toggle 129 refused 10 place 0
+toggle 33 marks 0 0 0 2147483648 false 1 not all hold
+toggle 96 marks 0 0 2147483648 2147483648 false 1 not all hold
+toggle 32 marks 2147483648 0 2147483648 2147483648 false 0 all hold
+clause 1 met 1
+clause 2 met 2
+clause 3 met 1" tally target/host/wide 128 33 129 33 96 32
 prints "begin refused 2 place 0" tally /dev/null 1
 for bad in 4294967296 99999999999999999999999999 -1 +1 '' ' 1' 1x 0x1 1.0; do
     declines "$bad" 1 9 target/host/sheet
@@ -60,6 +87,12 @@ for bad in 4294967296 99999999999999999999999999 -1 +1 '' ' 1' 1x 0x1 1.0; do
     declines counts 1 "$bad" target/host/sheet
     declines tally target/host/sheet 1 "$bad"
 done
+for bad in 1, ,1 , 1,2,3,4,5 1,2,3,4, 1,,2 4294967296,0 0,0,0,4294967296 '1, 2' 1,-1 '1;2'; do
+    declines counts "$bad" 1 target/host/sheet
+    declines counts 1 "$bad" target/host/sheet
+done
+declines 3,0 1 9 target/host/sheet
+declines tally target/host/sheet 1,0
 declines 3 1 9
 declines counts 1 target/host/sheet
 declines 3 1 9 target/host/no-such-sheet

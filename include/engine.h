@@ -7,8 +7,8 @@
      valid during the call, and need live no longer: the library keeps no pointer. Meanwhile nobody writes them, and nobody reads
      the table or a tally. A pointer may be null where its length is 0. The two sheets of alike, and the two arrays of
      clause_counts, may share a buffer; the parts of a tally and its sheet may not.
-   - There is enough stack: run takes about 115 KB at its deepest, alike 74 KB, clause_counts and the operations on a tally 37 KB,
-     covering_code 32 KB (docs/BENCH.md).
+   - There is enough stack: run takes about 285 KB at its deepest (162 KB with 32 variables), alike 74 KB, clause_counts and the
+     operations on a tally 37 KB, covering_code 32 KB (docs/BENCH.md).
 
    In every reply `number` and `place` are the refusal's number and place (README.md has the table); both are 0 where nothing
    is refused, and a refusal is told by number not 0. What does not belong to an answer is 0. */
@@ -25,12 +25,15 @@ extern "C" {
 /* What an answer of run is. */
 enum { ENGINE_REFUSED = 0, ENGINE_CLEAR = 1, ENGINE_NONE = 2, ENGINE_SPENT = 3 };
 
-/* Clear has the assignment (bit v - 1 of marks is 1 where variable v is paid) and the calls needed, none the calls needed,
-   spent the budget as its calls. */
+/* An assignment, or a set of variables, is four words: variables 1 to 32 have the bits 0 to 31 of the first, 33 to 64 those of the
+   second, and so on up to variable 128. A bit is 1 where the variable is paid, or in the set. */
+enum { ENGINE_WORDS = 4 };
+
+/* Clear has the assignment (marks) and the calls needed, none the calls needed, spent the budget as its calls. */
 struct reply {
     uint32_t verdict;
     uint32_t batch;
-    uint32_t marks;
+    uint32_t marks[ENGINE_WORDS];
     uint32_t calls;
     uint32_t number;
     uint32_t place;
@@ -48,11 +51,10 @@ struct counts_reply {
     uint32_t place;
 };
 
-/* The two numbers of a clause of the sheet, the first being clause 0, under an assignment and a set of flipped variables: bit
-   v - 1 belongs to variable v, and bits that belong to no variable do not matter. The clause is true where met is above 0. Past
-   the last clause both numbers are 0. */
-struct counts_reply clause_counts(const uint8_t *sheet, size_t length, uint32_t clause, const uint32_t marks[1],
-                                  const uint32_t flipped[1]);
+/* The two numbers of a clause of the sheet, the first being clause 0, under an assignment and a set of flipped variables; bits that
+   belong to no variable do not matter. The clause is true where met is above 0. Past the last clause both numbers are 0. */
+struct counts_reply clause_counts(const uint8_t *sheet, size_t length, uint32_t clause, const uint32_t marks[ENGINE_WORDS],
+                                  const uint32_t flipped[ENGINE_WORDS]);
 
 /* A tally is the host's: an assignment (marks), for each of up to 1,024 clauses the number of its met literals, and the number of
    clauses that are false (unmet). The host lends it with the sheet, and the library keeps nothing of it. */
@@ -63,14 +65,15 @@ struct tally_reply {
 
 /* Begins the tally of the sheet: marks 0, the number of met literals of each clause, 0 past the last clause, and the number of false
    clauses. */
-struct tally_reply tally_begin(const uint8_t *sheet, size_t length, uint32_t marks[1], uint8_t met[1024], uint32_t *unmet);
+struct tally_reply tally_begin(const uint8_t *sheet, size_t length, uint32_t marks[ENGINE_WORDS], uint8_t met[1024],
+                               uint32_t *unmet);
 
 /* Toggles one variable in marks. The number of each clause that names it goes one up or down and is then brought within 0 to the
    clause's length; no other number moves. In the order of the clauses unmet loses one where such a number leaves 0 and gains one where
    it falls to 0, each time brought within 0 to 1,024. After the sheet's own refusals, variable 0 or above n is refusal 10, place 0.
    On the sheet that began the tally its numbers stay the true ones. A refusal, of tally_begin too, leaves everything as it came. */
-struct tally_reply tally_toggle(const uint8_t *sheet, size_t length, uint32_t variable, uint32_t marks[1], uint8_t met[1024],
-                                uint32_t *unmet);
+struct tally_reply tally_toggle(const uint8_t *sheet, size_t length, uint32_t variable, uint32_t marks[ENGINE_WORDS],
+                                uint8_t met[1024], uint32_t *unmet);
 
 /* Whether all clauses are true, from the tally alone: 1 where unmet is 0, else 0. */
 uint32_t tally_holds(uint32_t unmet);

@@ -1,7 +1,7 @@
 #!/usr/bin/env python3
 """Tests of the built program `clearing`, byte by byte of what it reads and prints: every kind of line, every refusal that it
-can print with its place, and the order of refusals. The lines are worked out by hand from paper 01 and paper 4 of 02. Then `tools/sheet solve`
-and `run.sh` over the same program."""
+can print with its place, the order of refusals, and variables in every word of an assignment. The lines are worked out by hand
+from paper 01 and papers 4 and 5 of 02. Then `tools/sheet solve` and `run.sh` over the same program."""
 import os
 import subprocess
 import sys
@@ -19,10 +19,27 @@ OPPOSITES = [0xC0000000, 0xC0000007, 0x80000001, 0x40000001, 2, 0x40000001, 3]
 ALL_FOUR = [0xC000FFFF, 0xC000FFFF, 0x80000002] + [0x40000002, 2, 4, 0x40000002, 2, 5, 0x40000002, 3, 4, 0x40000002, 3, 5]
 # (1)(2 3)(-1): the last clause is dead after one flip
 LATER_DEAD = [0xC0000000, 0xC0000004, 0x80000003, 0x40000001, 2, 0x40000002, 4, 6, 0x40000001, 3]
+# the variables at both ends of each word, and the marks where one of them alone is paid; 127 is the last one of n 127
+ENDS = [1, 32, 33, 64, 65, 96, 97, 128]
+ALONE = {1: '1 0 0 0', 32: '2147483648 0 0 0', 33: '0 1 0 0', 64: '0 2147483648 0 0', 65: '0 0 1 0', 96: '0 0 2147483648 0',
+         97: '0 0 0 1', 127: '0 0 0 1073741824', 128: '0 0 0 2147483648'}
+ALL_ENDS = '2147483649 2147483649 2147483649 2147483649'
 
 
 def bytes_of(words):
     return b''.join(w.to_bytes(4, 'little') for w in words)
+
+
+def sheet(n, *clauses):
+    """A sheet of batch 5 from clauses of numbers, a negative literal as a minus."""
+    words = [0xC0000000, 0xC0000005, 0x80000000 + n]
+    for clause in clauses:
+        words += [0x40000000 + len(clause)] + [2 * abs(l) + (l < 0) for l in clause]
+    return words
+
+
+def units(n, literals):
+    return sheet(n, *([l] for l in literals))
 
 
 def printed(data):
@@ -30,35 +47,37 @@ def printed(data):
     return ran.returncode, ran.stdout.decode(), ran.stderr.decode()
 
 
-class Program(unittest.TestCase):
+class Lines(unittest.TestCase):
     def prints(self, data, line):
         self.assertEqual(printed(data), (0, line + '\n', ''))
 
-    def prints_for(self, plan, sheet, line):
-        self.prints(bytes_of(plan + sheet), line)
+    def prints_for(self, plan, words, line):
+        self.prints(bytes_of(plan + words), line)
 
+
+class Program(Lines):
     def test_clear(self):
-        self.prints_for([3, 1, 9], HEAD + CLAUSES, 'batch 70000 clear calls 2 marks 1')
-        self.prints_for([3, 1, 1], [0xC0000000, 0xC0000000, 0x80000000], 'batch 0 clear calls 1 marks 0')
-        self.prints_for([1, 0, 0xFFFFFFFF], [0xC000FFFF, 0xC000FFFF, 0x80000020], 'batch 4294967295 clear calls 1 marks 0')
+        self.prints_for([3, 1, 9], HEAD + CLAUSES, 'batch 70000 clear calls 2 marks 1 0 0 0')
+        self.prints_for([3, 1, 1], [0xC0000000, 0xC0000000, 0x80000000], 'batch 0 clear calls 1 marks 0 0 0 0')
+        self.prints_for([1, 0, 0xFFFFFFFF], [0xC000FFFF, 0xC000FFFF, 0x80000020], 'batch 4294967295 clear calls 1 marks 0 0 0 0')
 
     def test_none(self):
-        self.prints_for([3, 1, 9], [0xC0000000, 0xC0000000, 0x80000000, 0x40000000], 'batch 0 none calls 1 marks 0')
-        self.prints_for([1, 1, 2], OPPOSITES, 'batch 7 none calls 2 marks 0')
-        self.prints_for([1, 0, 2], OPPOSITES, 'batch 7 none calls 2 marks 0')
-        self.prints_for([2, 1, 6], ALL_FOUR, 'batch 4294967295 none calls 6 marks 0')
-        self.prints_for([2, 2, 5], ALL_FOUR, 'batch 4294967295 none calls 5 marks 0')
+        self.prints_for([3, 1, 9], [0xC0000000, 0xC0000000, 0x80000000, 0x40000000], 'batch 0 none calls 1 marks 0 0 0 0')
+        self.prints_for([1, 1, 2], OPPOSITES, 'batch 7 none calls 2 marks 0 0 0 0')
+        self.prints_for([1, 0, 2], OPPOSITES, 'batch 7 none calls 2 marks 0 0 0 0')
+        self.prints_for([2, 1, 6], ALL_FOUR, 'batch 4294967295 none calls 6 marks 0 0 0 0')
+        self.prints_for([2, 2, 5], ALL_FOUR, 'batch 4294967295 none calls 5 marks 0 0 0 0')
 
     def test_spent(self):
-        self.prints_for([1, 1, 1], OPPOSITES, 'batch 7 spent calls 1 marks 0')
-        self.prints_for([2, 2, 4], ALL_FOUR, 'batch 4294967295 spent calls 4 marks 0')
-        self.prints_for([3, 1, 0], HEAD + CLAUSES, 'batch 70000 spent calls 0 marks 0')
+        self.prints_for([1, 1, 1], OPPOSITES, 'batch 7 spent calls 1 marks 0 0 0 0')
+        self.prints_for([2, 2, 4], ALL_FOUR, 'batch 4294967295 spent calls 4 marks 0 0 0 0')
+        self.prints_for([3, 1, 0], HEAD + CLAUSES, 'batch 70000 spent calls 0 marks 0 0 0 0')
 
     def test_dead(self):
-        self.prints_for([3, 3, 2], LATER_DEAD, 'batch 4 none calls 2 marks 0')
-        self.prints_for([3, 3, 1], LATER_DEAD, 'batch 4 spent calls 1 marks 0')
+        self.prints_for([3, 3, 2], LATER_DEAD, 'batch 4 none calls 2 marks 0 0 0 0')
+        self.prints_for([3, 3, 1], LATER_DEAD, 'batch 4 spent calls 1 marks 0 0 0 0')
         # with an empty clause after the first false one there is nothing to try
-        self.prints_for([3, 3, 9], LATER_DEAD + [0x40000000], 'batch 4 none calls 1 marks 0')
+        self.prints_for([3, 3, 9], LATER_DEAD + [0x40000000], 'batch 4 none calls 1 marks 0 0 0 0')
 
     def test_1_length(self):
         self.prints(bytes_of([3, 1, 9] + HEAD) + b'\0', 'refused 1 place 0')
@@ -81,7 +100,10 @@ class Program(unittest.TestCase):
     def test_5_limit(self):
         self.prints_for([3, 1, 9], [0xC0010000] + HEAD[1:], 'refused 5 place 0')
         self.prints_for([3, 1, 9], [0xC0000001, 0xC0010000, 0x80000003], 'refused 5 place 1')
-        self.prints_for([3, 1, 9], HEAD[:2] + [0x80000021], 'refused 5 place 2')
+        for n in (129, 160, 256, 0x3FFFFFFF):
+            self.prints_for([3, 1, 9], HEAD[:2] + [0x80000000 + n], 'refused 5 place 2')
+        for n in (32, 33, 127, 128):
+            self.prints_for([3, 1, 9], HEAD[:2] + [0x80000000 + n], 'batch 70000 clear calls 1 marks 0 0 0 0')
         self.prints_for([3, 1, 9], HEAD + [0x40000009], 'refused 5 place 3')
         self.prints_for([3, 1, 9], HEAD + [0x40000000] * 1025, 'refused 5 place 1027')
 
@@ -89,7 +111,9 @@ class Program(unittest.TestCase):
         # the longest sheet: 1,024 clauses of 8 literals, all of them (1 2 3 4 5 6 7 8)
         longest = [0xC0000000, 0xC0000000, 0x80000008] + [0x40000008, 2, 4, 6, 8, 10, 12, 14, 16] * 1024
         self.assertEqual(4 * len(longest), 36876)
-        self.prints_for([8, 1, 9], longest, 'batch 0 clear calls 2 marks 1')
+        self.prints_for([8, 1, 9], longest, 'batch 0 clear calls 2 marks 1 0 0 0')
+        wide = [0xC0000000, 0xC0000000, 0x80000080] + [0x40000008, 2, 64, 66, 128, 130, 192, 194, 256] * 1024
+        self.prints_for([8, 1, 9], wide, 'batch 0 clear calls 2 marks 1 0 0 0')
         for more in (1, 2, 4, 5, 70000):
             self.prints(bytes_of([8, 1, 9] + longest) + b'\0' * more, 'refused 5 place 9219')
 
@@ -97,10 +121,16 @@ class Program(unittest.TestCase):
         self.prints_for([3, 1, 9], HEAD + [0x40000001, 0], 'refused 6 place 4')
         self.prints_for([3, 1, 9], HEAD + [0x40000001, 1], 'refused 6 place 4')
         self.prints_for([3, 1, 9], HEAD + [0x40000002, 2, 8], 'refused 6 place 5')
+        for n in (31, 32, 33, 64, 96, 127, 128):
+            self.prints_for([3, 1, 9], sheet(n, [n + 1]), 'refused 6 place 4')
+            self.prints_for([3, 1, 9], sheet(n, [-n - 1]), 'refused 6 place 4')
 
     def test_7_twice(self):
         self.prints_for([3, 1, 9], HEAD + [0x40000002, 2, 2], 'refused 7 place 5')
         self.prints_for([3, 1, 9], HEAD + [0x40000003, 2, 4, 3], 'refused 7 place 6')
+        for v in ALONE:
+            self.prints_for([3, 1, 9], sheet(128, [v, v]), 'refused 7 place 5')
+            self.prints_for([3, 1, 9], sheet(128, [2, v, -v]), 'refused 7 place 6')
 
     def test_8_plan(self):
         for plan in ([0, 0, 9], [13, 1, 9], [3, 4, 9], [0xFFFFFFFF, 0, 9], [12, 0xFFFFFFFF, 9]):
@@ -120,7 +150,90 @@ class Program(unittest.TestCase):
                 running.stdin.write(piece)
                 running.stdin.flush()
                 time.sleep(0.05)
-            self.assertEqual(running.communicate()[0], b'batch 70000 clear calls 2 marks 1\n')
+            self.assertEqual(running.communicate()[0], b'batch 70000 clear calls 2 marks 1 0 0 0\n')
+
+
+class FourWords(Lines):
+    """Variables up to 128. Plan 1, 1 has one centre, all marks 0, and every variable within its radius."""
+
+    def test_one_variable(self):
+        for v, marks in ALONE.items():
+            for n in (v, 128):
+                self.prints_for([1, 1, 2], sheet(n, [v]), 'batch 5 clear calls 2 marks ' + marks)
+                self.prints_for([1, 1, 1], sheet(n, [v]), 'batch 5 spent calls 1 marks 0 0 0 0')
+                self.prints_for([1, 1, 1], sheet(n, [-v]), 'batch 5 clear calls 1 marks 0 0 0 0')
+
+    def test_both_ends_of_each_word(self):
+        # one literal a clause: each call flips the first false clause's, so that 8 flips need 9 calls. The first word of every code
+        # is 0, and R is 16 for blocks of 8 with radius 1 (of 127 variables the last block has 7), 11 for blocks of 12, 128 for 1, 1
+        for plan in ([8, 1], [12, 1], [1, 1], [12, 12]):
+            self.prints_for(plan + [9], units(128, ENDS), 'batch 5 clear calls 9 marks ' + ALL_ENDS)
+            self.prints_for(plan + [8], units(128, ENDS), 'batch 5 spent calls 8 marks 0 0 0 0')
+            self.prints_for(plan + [9], units(127, ENDS[:7] + [127]),
+                            'batch 5 clear calls 9 marks 2147483649 2147483649 2147483649 1073741825')
+        self.prints_for([8, 1, 9], units(128, [-v for v in ENDS]), 'batch 5 clear calls 1 marks 0 0 0 0')
+        # with radius 0 each centre has one call, and variable 128 is not paid before centre 2^127
+        self.prints_for([12, 0, 1000], units(128, ENDS), 'batch 5 spent calls 1000 marks 0 0 0 0')
+
+    def test_every_variable(self):
+        every = 'batch 5 clear calls %d marks 4294967295 4294967295 4294967295 %d'
+        self.prints_for([1, 1, 129], units(128, range(1, 129)), every % (129, 4294967295))
+        self.prints_for([12, 12, 129], units(128, range(128, 0, -1)), every % (129, 4294967295))
+        self.prints_for([12, 12, 128], units(127, range(1, 128)), every % (128, 2147483647))
+        self.prints_for([12, 12, 128], units(128, range(1, 129)), 'batch 5 spent calls 128 marks 0 0 0 0')
+
+    def test_from_word_to_word(self):
+        # (1)(-1 32)(-32 33) .. (-97 128): each flip makes the next clause false, of which one variable is left to flip
+        chain = [[1]] + [[-u, v] for u, v in zip(ENDS, ENDS[1:])]
+        self.prints_for([1, 1, 9], sheet(128, *chain), 'batch 5 clear calls 9 marks ' + ALL_ENDS)
+        # the last flip makes (-128) dead
+        self.prints_for([1, 1, 9], sheet(128, *chain, [-128]), 'batch 5 none calls 9 marks 0 0 0 0')
+        self.prints_for([1, 1, 8], sheet(128, *chain, [-128]), 'batch 5 spent calls 8 marks 0 0 0 0')
+
+    def test_one_clause_over_all_words(self):
+        self.prints_for([8, 1, 9], sheet(128, ENDS), 'batch 5 clear calls 2 marks 1 0 0 0')
+        # a flip of any variable but 128 makes its own (-v) dead: 1 call, 7 that say no, and the one that finds
+        negative = [[-v] for v in ENDS]
+        self.prints_for([8, 1, 9], sheet(128, ENDS, *negative[:7]), 'batch 5 clear calls 9 marks ' + ALONE[128])
+        # from the end the first flip finds
+        self.prints_for([8, 1, 9], sheet(128, ENDS[::-1], *negative[:7]), 'batch 5 clear calls 2 marks ' + ALONE[128])
+        # one centre: 1 call and 8 that say no
+        self.prints_for([1, 1, 9], sheet(128, ENDS, *negative), 'batch 5 none calls 9 marks 0 0 0 0')
+
+    def test_none(self):
+        for v in ALONE:
+            self.prints_for([1, 1, 2], units(v, [v, -v]), 'batch 5 none calls 2 marks 0 0 0 0')
+            self.prints_for([1, 1, 1], units(v, [v, -v]), 'batch 5 spent calls 1 marks 0 0 0 0')
+            # blocks of 11 with radius 5 have the words 0 and 2047, and the last one, of 7, has 0 and 7: 4,096 centres. From each,
+            # one of the clauses is false, and flipping it makes the other dead
+            self.prints_for([11, 5, 8192], units(128, [v, -v]), 'batch 5 none calls 8192 marks 0 0 0 0')
+            self.prints_for([11, 5, 8191], units(128, [v, -v]), 'batch 5 spent calls 8191 marks 0 0 0 0')
+        # the paper's four clauses under one centre, over two variables that share a bit or stand in two words
+        for u, v in ((1, 33), (32, 33), (64, 65), (96, 97), (32, 128), (127, 128), (128, 1)):
+            four = sheet(128, [u, v], [u, -v], [-u, v], [-u, -v])
+            self.prints_for([1, 1, 5], four, 'batch 5 none calls 5 marks 0 0 0 0')
+            self.prints_for([1, 1, 4], four, 'batch 5 spent calls 4 marks 0 0 0 0')
+
+    def far_from_most(self, n):
+        """The one assignment that meets these clauses pays, in blocks of 11, the first 5 variables of each but the last, and the
+        whole of the last."""
+        last = (n - 1) // 11 * 11
+        return units(n, [v if v > last or (v - 1) % 11 < 5 else -v for v in range(1, n + 1)])
+
+    def test_centres_of_every_word(self):
+        # With radius 5 each block has the words 0 and 2047. The first half of the centres has the last block 0, which is 11 away there
+        # and at least 5 in each other block, more than R: R + 1 calls each. The next centre is 0 in all blocks but the last.
+        # 3 blocks, R 15: 4 centres of 16 calls, then 10 flips
+        self.prints_for([11, 5, 75], self.far_from_most(33), 'batch 5 clear calls 75 marks 4290836511 1 0 0')
+        # 6 blocks, R 30: 32 centres of 31 calls, then 25 flips
+        self.prints_for([11, 5, 1018], self.far_from_most(66), 'batch 5 clear calls 1018 marks 130086943 4286705726 3 0')
+        # 9 blocks, R 45: 256 centres of 46 calls, then 40 flips
+        self.prints_for([11, 5, 11817], self.far_from_most(99),
+                        'batch 5 clear calls 11817 marks 130086943 260173886 4278444156 7')
+        # a last block of 7 with the words 0 and 7, R 60: 2,048 centres at least 62 away, of 61 calls each, then 55 + 4 flips
+        self.prints_for([11, 5, 124988], self.far_from_most(128),
+                        'batch 5 clear calls 124988 marks 130086943 260173886 520347772 4261921016')
+        self.prints_for([11, 5, 124987], self.far_from_most(128), 'batch 5 spent calls 124987 marks 0 0 0 0')
 
 
 class Around(unittest.TestCase):
@@ -140,11 +253,23 @@ class Around(unittest.TestCase):
         status, lines = self.ran(['tools/sheet', 'solve', '-', '13', '1', '1'], 'n 1 (1) (-1)')
         self.assertEqual((status, lines[-2:]), (0, ['s UNKNOWN', '']))
 
+    def test_solve_128_variables(self):
+        status, lines = self.ran(['tools/sheet', 'solve', '-'], 'p cnf 128 8\n1 0 32 0 33 0 64 0\n65 0 96 0 97 0 128 0\n')
+        self.assertEqual(lines[:4], ['c plan 1 1, budget 4294967295', 'c M 1, R 128, longest clause 1: at most 129 calls', 'c calls 9',
+                                     's SATISFIABLE'])
+        values = [int(word) for line in lines if line.startswith('v ') for word in line.split()[1:]]
+        self.assertEqual((status, values), (10, [v if v in ENDS else -v for v in range(1, 129)] + [0]))
+        status, lines = self.ran(['tools/sheet', 'solve', '-'], 'p cnf 128 3\n128 0\n-128 97 0\n-97 0\n')
+        self.assertEqual((status, lines[-2:]), (20, ['s UNSATISFIABLE', '']))
+
     def test_run(self):
         text = 'batch 7 n 1 (1) (-1)'
-        self.assertEqual(self.ran(['run.sh'], '')[1][0], 'batch 70000 clear calls 2 marks 1')
-        self.assertEqual(self.ran(['run.sh', '-'], text)[1][:2], ['plan 1 0, budget 4294967295', 'batch 7 none calls 2 marks 0'])
-        self.assertEqual(self.ran(['run.sh', '1', '1', '1', '-'], text)[1][0], 'batch 7 spent calls 1 marks 0')
+        self.assertEqual(self.ran(['run.sh'], '')[1][0], 'batch 70000 clear calls 2 marks 1 0 0 0')
+        self.assertEqual(self.ran(['run.sh', '-'], text)[1][:2], ['plan 1 0, budget 4294967295', 'batch 7 none calls 2 marks 0 0 0 0'])
+        self.assertEqual(self.ran(['run.sh', '1', '1', '1', '-'], text)[1][0], 'batch 7 spent calls 1 marks 0 0 0 0')
+        lines = self.ran(['run.sh', '-'], 'batch 7 n 128 (128) (-64)')[1]
+        self.assertEqual(lines[:2], ['plan 1 1, budget 4294967295', 'batch 7 clear calls 2 marks 0 0 0 2147483648'])
+        self.assertEqual(lines[-4:], ['variable 128: pay', 'clause 1 (128): met by 128', 'clause 2 (-64): met by -64', ''])
 
 
 if __name__ == '__main__':

@@ -18,6 +18,9 @@ LOADER.exec_module(sheet)
 TEXT = 'batch 70000\nn 3\n(1 2)\n(-1 -3)\n(-3)'
 WORDS = [0xC0000001, 0xC0001170, 0x80000003, 0x40000002, 2, 4, 0x40000002, 3, 7, 0x40000001, 7]
 BYTES = b''.join(w.to_bytes(4, 'little') for w in WORDS)
+# what the program prints of an assignment in which one variable is paid: both ends of each word, and the last variable of n 127
+ENDS = {1: '1 0 0 0', 32: '2147483648 0 0 0', 33: '0 1 0 0', 64: '0 2147483648 0 0', 65: '0 0 1 0', 96: '0 0 2147483648 0',
+        97: '0 0 0 1', 127: '0 0 0 1073741824', 128: '0 0 0 2147483648'}
 
 
 class Sheets(unittest.TestCase):
@@ -31,17 +34,44 @@ class Sheets(unittest.TestCase):
 
     def test_empty_clause_and_empty_formula(self):
         self.assertEqual(sheet.formula_of('n 0\n()'), (0, 0, [[]]))
-        self.assertEqual(sheet.formula_of('n 32'), (0, 32, []))
+        self.assertEqual(sheet.formula_of('n 128'), (0, 128, []))
         self.assertEqual(sheet.formula_of('p cnf 2 1\n0\n'), (0, 2, [[]]))
 
+    def test_up_to_128_variables(self):
+        for n in (31, 32, 33, 127, 128):
+            formula = (7, n, [[v, -1] for v in ENDS if 1 < v <= n] + [[-v] for v in ENDS if v <= n] + [[n]])
+            self.assertEqual(sheet.formula_of(sheet.show(sheet.sheet_of(*formula))), formula)
+            self.assertEqual(sheet.formula_of('p cnf %d 1\n1 -%d 0\n' % (n, n)), (0, n, [[1, -n]]))
+        words = [0xC0000000, 0xC0000007, 0x80000080, 0x40000002, 256, 129]
+        self.assertEqual(sheet.sheet_of(7, 128, [[128, -64]]), b''.join(w.to_bytes(4, 'little') for w in words))
+
     def test_clear_is_explained(self):
-        rows = sheet.explain(BYTES, 'batch 70000 clear calls 2 marks 1').split('\n')
+        rows = sheet.explain(BYTES, 'batch 70000 clear calls 2 marks 1 0 0 0').split('\n')
         self.assertEqual(rows[1:4], ['variable 1: pay', 'variable 2: hold', 'variable 3: hold'])
         self.assertEqual(rows[4:], ['clause 1 (1 2): met by 1', 'clause 2 (-1 -3): met by -3', 'clause 3 (-3): met by -3'])
 
+    def test_marks_of_every_word(self):
+        for v, marks in ENDS.items():
+            for n in (127, 128):
+                if v <= n:
+                    data, line = sheet.sheet_of(0, n, [[v]]), 'batch 0 clear calls 2 marks ' + marks
+                    rows = sheet.explain(data, line).split('\n')
+                    self.assertEqual(rows[1:n + 1], ['variable %d: %s' % (u, 'pay' if u == v else 'hold') for u in range(1, n + 1)])
+                    self.assertEqual(rows[n + 1:], ['clause 1 (%d): met by %d' % (v, v)])
+                    self.assertEqual(sheet.marks_text(sheet.answer_of(line)[3]), marks)
+        every = sheet.answer_of('batch 0 clear calls 129 marks' + 4 * ' 4294967295')
+        self.assertEqual(every, ('clear', 0, 129, 2 ** 128 - 1))
+
+    def test_marks_are_four_numbers(self):
+        for marks in ('', '1', '1 0', '1 0 0', '1 0 0 0 0', '4294967296 0 0 0', '1 0 0 4294967296', '1 0 0 ' + '9' * 5000, '1 0 0 -1',
+                      '1 0 0 x', '1,0,0,0', '1  0 0 0', '+1 0 0 0'):
+            with self.assertRaises(sheet.Bad) as seen:
+                sheet.explain(BYTES, 'batch 70000 clear calls 2 marks ' + marks)
+            self.assertIn('no answer of the program', str(seen.exception))
+
     def test_other_answers_are_explained(self):
-        self.assertIn('no assignment', sheet.explain(BYTES, 'batch 70000 none calls 2 marks 0'))
-        self.assertIn('more than 2', sheet.explain(BYTES, 'batch 70000 spent calls 2 marks 0'))
+        self.assertIn('no assignment', sheet.explain(BYTES, 'batch 70000 none calls 2 marks 0 0 0 0'))
+        self.assertIn('more than 2', sheet.explain(BYTES, 'batch 70000 spent calls 2 marks 0 0 0 0'))
 
     def test_refusals_are_explained(self):
         for number in (3, 4, 5, 6, 7):
@@ -54,21 +84,29 @@ class Sheets(unittest.TestCase):
         self.assertIn('at word 9219:', sheet.explain(BYTES, 'refused 4 place 9219'))
 
     def test_a_wrong_answer_is_seen(self):
-        for line in ('batch 70000 clear calls 2 marks 4', 'batch 1 clear calls 2 marks 1', 'batch 70000 clear calls 2 marks 9', 'yes'):
+        for line in ('batch 70000 clear calls 2 marks 4 0 0 0', 'batch 1 clear calls 2 marks 1 0 0 0', 'yes'):
             with self.assertRaises(sheet.Bad):
                 sheet.explain(BYTES, line)
+        for marks in ('9 0 0 0', '1 1 0 0', '1 0 1 0', '1 0 0 2147483648'):
+            with self.assertRaises(sheet.Bad) as seen:
+                sheet.explain(BYTES, 'batch 70000 clear calls 2 marks ' + marks)
+            self.assertEqual(str(seen.exception), 'marks %s: a bit above variable 3 is set' % marks)
+        with self.assertRaises(sheet.Bad) as seen:
+            sheet.explain(sheet.sheet_of(0, 127, []), 'batch 0 clear calls 1 marks 0 0 0 2147483648')
+        self.assertIn('above variable 127', str(seen.exception))
 
     def test_messages_name_the_line(self):
-        for text, line in (('n 33', 1), ('n 3\n(1 4)', 2), ('n 3\n\n(1 -1)', 3), ('n 3\n(1', 2), ('(1)', 1), ('n 3\n(x)', 2), ('n 3\n1', 2),
+        for text, line in (('n 129', 1), ('n 128\n(129)', 2), ('n 127\n(1)\n(-128)', 3), ('n 128\n(128 -128)', 2), ('n 3\n(1 4)', 2),
+                           ('n 3\n\n(1 -1)', 3), ('n 3\n(1', 2), ('(1)', 1), ('n 3\n(x)', 2), ('n 3\n1', 2),
                            ('n 9\n(1 2 3 4 5 6 7 8 9)', 2), ('n 3\nn 3', 2), ('', 1), ('batch', 1), ('n 1\n' + '(1)\n' * 1025, 1026),
-                           ('p cnf 3 1\n1 4 0', 2), ('p cnf 33 1', 1), ('p cnf 3 2\n1 0', 2), ('p cnf 3 1\n1 2', 2),
-                           ('c x\n1 0', 2), ('p cnf 3 1\np cnf 3 1', 2)):
+                           ('p cnf 129 1', 1), ('p cnf 128 1\n129 0', 2), ('p cnf 3 1\n1 4 0', 2), ('p cnf 3 2\n1 0', 2),
+                           ('p cnf 3 1\n1 2', 2), ('c x\n1 0', 2), ('p cnf 3 1\np cnf 3 1', 2)):
             with self.assertRaises(sheet.Bad) as seen:
                 sheet.formula_of(text)
             self.assertIn('line %d:' % line, str(seen.exception))
 
     def test_bad_sheets_name_the_word(self):
-        for at, word in ((0, 0), (2, 0x80000021), (3, 0x40000009), (4, 0), (4, 8), (5, 3), (5, 0x40000000)):
+        for at, word in ((0, 0), (2, 0x80000081), (3, 0x40000009), (4, 0), (4, 8), (5, 3), (5, 0x40000000)):
             bad = BYTES[:4 * at] + word.to_bytes(4, 'little') + BYTES[4 * at + 4:]
             with self.assertRaises(sheet.Bad) as seen:
                 sheet.formula_in(bad)
@@ -124,9 +162,15 @@ class Plans(unittest.TestCase):
         self.assertEqual(sheet.bound_of(0, 0, 3, 1), (1, 0, 1))
         self.assertEqual(sheet.bound_of(1, 0, 1, 1), (1, 1, 1))
         self.assertEqual(sheet.bound_of(1, 0, 1, 0), (2, 0, 2))
+        # 128 variables: every assignment a centre; one centre with every variable within its radius
+        self.assertEqual(sheet.bound_of(128, 8, 1, 0), (2 ** 128, 0, 2 ** 128))
+        self.assertEqual(sheet.bound_of(128, 2, 1, 1), (1, 128, 2 ** 129 - 1))
+        self.assertEqual(sheet.bound_of(127, 2, 12, 12), (1, 127, 2 ** 128 - 1))
+        # 11 blocks of 11 with two words each, radius 5, and a last one of 7 with two words: R 12 x 5
+        self.assertEqual(sheet.bound_of(128, 2, 11, 5), (4096, 60, 4096 * (2 ** 61 - 1)))
 
     def test_the_least_bound_goes_first(self):
-        for n, k in ((0, 0), (3, 2), (20, 3), (32, 3), (32, 8)):
+        for n, k in ((0, 0), (3, 2), (20, 3), (32, 3), (32, 8), (127, 3), (128, 3), (128, 8)):
             plans = sheet.plans_of(n, k)
             self.assertEqual(sorted((b, s) for _, b, s, _, _ in plans), [(b, s) for b in range(1, 13) for s in range(b + 1)])
             self.assertEqual(plans[0], min(plans))
@@ -134,6 +178,9 @@ class Plans(unittest.TestCase):
         # ties go to the smaller b, then the smaller s
         self.assertEqual(sheet.plans_of(0, 0)[0][1:3], (1, 0))
         self.assertEqual(sheet.plans_of(32, 8)[0][1:3], (1, 0))
+        self.assertEqual(sheet.plans_of(128, 8)[0], (2 ** 128, 1, 0, 2 ** 128, 0))
+        # one literal a clause: with the whole of every block in its radius there is one centre and one branch, 128 flips long
+        self.assertEqual(sheet.plans_of(128, 1)[0], (129, 1, 1, 1, 128))
 
     def test_the_table(self):
         rows = sheet.show_plans(*sheet.formula_of(TEXT)[1:]).split('\n')
@@ -142,6 +189,13 @@ class Plans(unittest.TestCase):
         self.assertEqual(rows[2].split(), ['*', '3', '1', '2', '1', '6'])
         self.assertEqual(len(rows), 92)
         self.assertEqual([row for row in rows[3:] if '*' in row], [])
+
+    def test_the_table_of_128_variables(self):
+        rows = sheet.show_plans(128, [[1, -64, 128]]).split('\n')
+        self.assertEqual(rows[0], '# n 128, longest clause 3; * is the plan with the least bound')
+        self.assertEqual(len(rows), 92)
+        self.assertEqual(len({len(row) for row in rows[1:]}), 1)
+        self.assertIn(['12', '12', '1', '128', str((3 ** 129 - 1) // 2)], [row.split() for row in rows])
 
 
 class Solver(unittest.TestCase):
@@ -159,20 +213,33 @@ class Solver(unittest.TestCase):
         return lines, status
 
     def test_satisfiable(self):
-        lines, status = self.solve(TEXT, 'batch 70000 clear calls 2 marks 1')
+        lines, status = self.solve(TEXT, 'batch 70000 clear calls 2 marks 1 0 0 0')
         self.assertEqual(lines, ['c plan 3 1, budget 4294967295', 'c M 2, R 1, longest clause 2: at most 6 calls', 'c calls 2',
                                  's SATISFIABLE', 'v 1 -2 -3 0'])
         self.assertEqual(status, 10)
         self.assertEqual(self.input, b'\3\0\0\0' + b'\1\0\0\0' + b'\xff' * 4 + BYTES)
 
+    def test_128_variables(self):
+        text = 'p cnf 128 8\n1 0 32 0 33 0 64 0 65 0 96 0 97 0 128 0\n'
+        lines, status = self.solve(text, 'batch 0 clear calls 9 marks' + 4 * ' 2147483649')
+        self.assertEqual(lines[:4], ['c plan 1 1, budget 4294967295', 'c M 1, R 128, longest clause 1: at most 129 calls', 'c calls 9',
+                                     's SATISFIABLE'])
+        paid = (1, 32, 33, 64, 65, 96, 97, 128)
+        literals = [int(word) for line in lines[4:] for word in line.split()[1:]]
+        self.assertEqual(literals, [v if v in paid else -v for v in range(1, 129)] + [0])
+        self.assertEqual(status, 10)
+        with self.assertRaises(sheet.Bad) as seen:
+            self.solve(text, 'batch 0 clear calls 9 marks 2147483649 2147483649 2147483649 1')
+        self.assertIn('clause 8, (128)', str(seen.exception))
+
     def test_unsatisfiable(self):
-        lines, status = self.solve('p cnf 1 2\n1 0\n-1 0\n', 'batch 0 none calls 2 marks 0', (1, 1, 9))
+        lines, status = self.solve('p cnf 1 2\n1 0\n-1 0\n', 'batch 0 none calls 2 marks 0 0 0 0', (1, 1, 9))
         self.assertEqual(lines, ['c plan 1 1, budget 9', 'c M 1, R 1, longest clause 1: at most 2 calls', 'c calls 2', 's UNSATISFIABLE'])
         self.assertEqual(status, 20)
         self.assertEqual(self.input[:12], b'\1\0\0\0' + b'\1\0\0\0' + b'\x09\0\0\0')
 
     def test_unknown(self):
-        lines, status = self.solve(TEXT, 'batch 70000 spent calls 1 marks 0', (3, 1, 1))
+        lines, status = self.solve(TEXT, 'batch 70000 spent calls 1 marks 0 0 0 0', (3, 1, 1))
         self.assertEqual((lines[-1], status), ('s UNKNOWN', 0))
         self.assertIn('c spent: the search needs more calls than the budget', lines)
         lines, status = self.solve(TEXT, 'refused 8 place 0', (13, 1, 1))
@@ -180,17 +247,20 @@ class Solver(unittest.TestCase):
         self.assertIn('c refused: bad plan', lines[-2])
 
     def test_an_assignment_is_checked_first(self):
-        for said in ('batch 70000 clear calls 2 marks 4', 'batch 70000 clear calls 2 marks 9', 'batch 1 clear calls 2 marks 1', 'yes'):
+        for said in ('batch 70000 clear calls 2 marks 4 0 0 0', 'batch 70000 clear calls 2 marks 9 0 0 0',
+                     'batch 70000 clear calls 2 marks 1 0 0 1', 'batch 1 clear calls 2 marks 1 0 0 0',
+                     'batch 70000 clear calls 2 marks 1', 'yes'):
             with self.assertRaises(sheet.Bad):
                 self.solve(TEXT, said)
 
     def test_lines_of_an_assignment(self):
         self.assertEqual(sheet.value_lines(0, 0), ['v 0'])
-        for marks in (0, 2 ** 32 - 1, 0x5555aaaa):
-            lines = sheet.value_lines(32, marks)
-            self.assertTrue(all(line.startswith('v ') and len(line) < 78 for line in lines))
-            literals = [int(word) for line in lines for word in line.split()[1:]]
-            self.assertEqual(literals, [v if marks >> (v - 1) & 1 else -v for v in range(1, 33)] + [0])
+        for n in (32, 33, 127, 128):
+            for marks in (0, 2 ** n - 1, (2 ** n - 1) // 3, 1 << n - 1):
+                lines = sheet.value_lines(n, marks)
+                self.assertTrue(all(line.startswith('v ') and len(line) < 78 for line in lines))
+                literals = [int(word) for line in lines for word in line.split()[1:]]
+                self.assertEqual(literals, [v if marks >> (v - 1) & 1 else -v for v in range(1, n + 1)] + [0])
 
     def test_a_program_that_is_not_built(self):
         with self.assertRaises(sheet.Bad) as seen:

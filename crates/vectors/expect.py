@@ -4,16 +4,17 @@
     python3 crates/vectors/expect.py            write them
     python3 crates/vectors/expect.py --check    say whether the files are what this script would write
 
-The input is a run of named sheets: 28 bytes of name, two of length, the sheet. What is expected of each is worked out here from paper 01 alone, "The sheet" and
-"When the engine declines": nothing of the Rattle code is read or run. Each vector that is there for one row of the
-paper's table also says which answer it is there for, and that is compared with what `judge` works out.
+The input is a run of named sheets: 28 bytes of name, two of length, the sheet. What is expected of each is worked out here from
+the papers alone, "The sheet" and "When the engine declines" of 01 with the limit on n of paper 5 of 02: nothing of the Rattle code
+is read or run. Each vector that is there for one row of the paper's table also says which answer it is there for, and that is
+compared with what `judge` works out.
 Needs Python 3 and its standard library."""
 import os, random, struct, sys
 
-# ---------------------------------------------------------------- what paper 01 says of a sheet
+# ---------------------------------------------------------------- what papers 01 and 5 say of a sheet
 
 LONGEST = 36876
-LIMIT_HALF, LIMIT_N, LIMIT_C, LIMIT_CLAUSES = 65535, 32, 8, 1024
+LIMIT_HALF, LIMIT_N, LIMIT_C, LIMIT_CLAUSES = 65535, 128, 8, 1024
 
 
 def judge(sheet, but=None):
@@ -93,6 +94,10 @@ def sheet(*parts):
     return b''.join(struct.pack('<I', word) for part in parts for word in part)
 
 
+# the variables at both ends of each word of an assignment
+ENDS = (1, 32, 33, 64, 65, 96, 97, 128)
+# the longest sheet, without its header
+FULL = 1024 * clause(*ENDS)
 VECTORS = []
 
 
@@ -132,6 +137,10 @@ def accepted():
     vector('variable in two clauses', header(6) + clause(6, 1) + clause(-6, 1))
     vector('n 32, literals 32 and -32', header(32) + clause(32) + clause(-32))
     vector('n 31', header(31) + clause(31, -30))
+    vector('n 33', header(33))
+    vector('n 128', header(128))
+    for n in (33, 64, 65, 96, 97, 127, 128):
+        vector('n %d, %d and -%d' % (n, n, n), header(n) + clause(n) + clause(-n))
     vector('batch 0', header(2, 0) + clause(-2))
     vector('batch 65535', header(2, 65535) + clause(-2))
     vector('batch 65536', header(2, 65536) + clause(-2))
@@ -139,14 +148,25 @@ def accepted():
     vector('c 8', header(8) + clause(1, -2, 3, -4, 5, -6, 7, -8))
     vector('c 0 to 7', header(8) + [x for c in range(8) for x in clause(*range(1, c + 1))])
     vector('1024 empty clauses', header(0) + 1024 * clause())
-    vector('36876 bytes', header(32) + [x for i in range(1024) for x in clause(*[
-        (1 + (i + 3 * j) % 32) * (-1) ** (i >> j & 1) for j in range(8)])])
+    # 19 apart, so that each clause has variables of all words
+    vector('36876 bytes', header(128) + [x for i in range(1024) for x in clause(*[
+        (1 + (i + 19 * j) % 128) * (-1) ** (i >> j & 1) for j in range(8)])])
     rng = random.Random(19)
-    for i in range(6):
-        n = rng.randint(1, 32)
-        clauses = [[v * rng.choice((1, -1)) for v in rng.sample(range(1, n + 1), rng.randint(0, min(8, n)))]
-                   for _ in range((3, 8, 9, 40, 300, 1000)[i])]
+    for i, size in enumerate(2 * (3, 8, 9, 40, 300, 1000)):
+        n = rng.randint(1, 32) if i < 6 else rng.randint(33, 128)
+        clauses = [[v * rng.choice((1, -1)) for v in rng.sample(range(1, n + 1), rng.randint(0, min(8, n)))] for _ in range(size)]
         vector('random %d' % (i + 1), header(n, rng.getrandbits(32)) + [x for c in clauses for x in clause(*c)])
+
+
+def word_ends():
+    """Literals at both ends of each word of an assignment, and at the same bit of several."""
+    vector('word ends', header(128) + clause(*ENDS))
+    vector('word ends, negative', header(128) + clause(*[-v for v in ENDS]))
+    vector('word ends, backwards', header(128) + clause(*[v * (-1) ** v for v in reversed(ENDS)]))
+    vector('word ends, a clause each', header(128) + [x for v in ENDS for x in clause(v)])
+    vector('word ends, negative, each', header(128) + [x for v in ENDS for x in clause(-v)])
+    vector('word ends, n 127', header(127) + clause(1, -32, 33, -64, 65, -96, 97, -127) + clause(127, -126))
+    vector('one bit of all words', header(128) + clause(1, 33, 65, 97) + clause(-32, -64, -96, -128) + clause(97, -65, 33, -1))
 
 
 def wrong_kinds():
@@ -167,23 +187,24 @@ def torn():
     vector('torn after 7 of 8', header(8) + [w(1, 8)] + clause(1, 2, 3, 4, 5, 6, 7)[1:], 4, 11)
     vector('torn second clause', header(3) + clause(1, 2) + [w(1, 3), 2, 4], 4, 9)
     vector('torn, 1024th clause', header(1) + 1023 * clause() + [w(1, 1)], 4, 1027)
-    full = header(32) + 1024 * clause(1, 2, 3, 4, 5, 6, 7, 8)
-    vector('torn at 36872 bytes', full[:-1], 4, 9218)
+    vector('torn at 36872 bytes', header(128) + FULL[:-1], 4, 9218)
 
 
 def limits():
     vector('high half 65536', [w(3, 65536), w(3, 0), w(2, 0)], 5, 0)
     vector('high half, largest value', [w(3, 2 ** 30 - 1), w(3, 0), w(2, 0)], 5, 0)
     vector('low half 65536', [w(3, 0), w(3, 65536), w(2, 0)], 5, 1)
-    vector('n 33', header(33), 5, 2)
-    vector('n 128', header(128), 5, 2)
+    vector('n 129', header(129), 5, 2)
+    vector('n 129, literals', header(129) + clause(129, -128), 5, 2)
+    vector('n 256', header(256), 5, 2)
+    vector('n 512', header(512), 5, 2)
     vector('n, largest value', header(2 ** 30 - 1), 5, 2)
     vector('c 9', header(9) + clause(1, 2, 3, 4, 5, 6, 7, 8, 9), 5, 3)
     vector('c, largest value', header(9) + [w(1, 2 ** 30 - 1)], 5, 3)
     vector('c 9, second clause', header(9) + clause(1) + [w(1, 9)], 5, 5)
     vector('1025 empty clauses', header(0) + 1025 * clause(), 5, 1027)
     vector('1025th clause of 1', header(2) + 1024 * clause(1) + clause(2), 5, 2051)
-    full = sheet(header(32), 1024 * clause(1, 2, 3, 4, 5, 6, 7, 8))
+    full = sheet(header(128), FULL)
     assert len(full) == LONGEST
     vector('36880 bytes', full + sheet(clause()), 5, 9219)
 
@@ -194,12 +215,19 @@ def variables():
     vector('variable n + 1', header(3) + clause(4), 6, 4)
     vector('variable n + 1, negative', header(3) + clause(1, -4), 6, 5)
     vector('variable 1, n 0', header(0) + clause(1), 6, 4)
-    vector('variable 33, n 32', header(32) + clause(33), 6, 4)
-    vector('variable, largest value', header(32) + [w(1, 1), 2 ** 30 - 1], 6, 4)
+    for n in (32, 64, 96, 127, 128):
+        vector('variable %d, n %d' % (n + 1, n), header(n) + clause(n + 1), 6, 4)
+        vector('literal -%d, n %d' % (n + 1, n), header(n) + clause(n, -n - 1), 6, 5)
+    vector('variable 257, n 128', header(128) + clause(257), 6, 4)
+    vector('variable, largest value', header(128) + [w(1, 1), 2 ** 30 - 1], 6, 4)
     vector('variable n + 1, clause 2', header(3) + clause(1, 2) + clause(3, 4), 6, 8)
     vector('twice, same sign', header(3) + clause(2, 2), 7, 5)
     vector('twice, other sign', header(3) + clause(2, -2), 7, 5)
     vector('twice, variable 32', header(32) + clause(32, 1, -32), 7, 6)
+    for v in ENDS[2:]:
+        vector('twice, variable %d' % v, header(128) + clause(v, 1, -v), 7, 6)
+    vector('twice, variable 127, n 127', header(127) + clause(127, -126, 127), 7, 6)
+    vector('twice, after all ends', header(128) + clause(*ENDS[1:], -128), 7, 11)
     vector('twice, last of 8', header(8) + clause(1, 2, 3, 4, 5, 6, 7, -1), 7, 11)
     vector('twice, clause 2', header(3) + clause(1, 2) + clause(3, 1, 3), 7, 9)
 
@@ -212,23 +240,23 @@ def pair(name, data, first, place, then):
 
 def order():
     """Each pair of refusals whose order the paper fixes. (No overlong sheet is cut short: a clause too many comes first.)"""
-    full = sheet(header(32), 1024 * clause(1, 2, 3, 4, 5, 6, 7, 8))
+    full = sheet(header(128), FULL)
     pair('overlong before 1', full + b'\0', 'long', 9219, 1)
     pair('overlong before 3', bytes(len(full) + 4), 'long', 9219, 3)
-    pair('overlong before 5', sheet(header(33)) + full[12:] + sheet(clause()), 'long', 9219, 5)
+    pair('overlong before 5', sheet(header(129)) + full[12:] + sheet(clause()), 'long', 9219, 5)
     pair('overlong before 6', full[:16] + sheet([0]) + full[20:] + sheet(clause()), 'long', 9219, 6)
     pair('overlong before 7', full[:20] + full[16:20] + full[24:] + sheet(clause()), 'long', 9219, 7)
     pair('1 before 2', b'\1\2\3\4\5', 1, 0, 2)
     pair('1 before 3', sheet([w(2, 0)] + header(3)[1:]) + b'\0', 1, 0, 3)
     pair('1 before 4', sheet(header(3) + [w(1, 1)]) + b'\2\0\0', 1, 0, 4)
-    pair('1 before 5', sheet(header(33)) + b'\0', 1, 0, 5)
+    pair('1 before 5', sheet(header(129)) + b'\0', 1, 0, 5)
     pair('1 before 6', sheet(header(3) + clause(4)) + b'\0', 1, 0, 6)
     pair('1 before 7', sheet(header(3) + clause(1, 1)) + b'\0', 1, 0, 7)
     pair('2 before 3', [w(0, 0), w(1, 0)], 2, 0, 3)
     pair('2 before 5', [w(3, 65536)], 2, 0, 5)
     pair('3 before 5, high half', [w(2, 65536), w(3, 0), w(2, 0)], 3, 0, 5)
     pair('3 before 5, low half', [w(3, 0), w(1, 65536), w(2, 0)], 3, 1, 5)
-    pair('3 before 5, n', [w(3, 0), w(3, 0), w(3, 33)], 3, 2, 5)
+    pair('3 before 5, n', [w(3, 0), w(3, 0), w(3, 129)], 3, 2, 5)
     pair('3 before 5, c', header(3) + [w(2, 9)], 3, 3, 5)
     pair('3 before 5, 1025th', header(0) + 1024 * clause() + [w(0, 0)], 3, 1027, 5)
     vector('5 and 5, 1025th with c 9', header(0) + 1024 * clause() + [w(1, 9)], 5, 1027)
@@ -239,7 +267,7 @@ def order():
     pair('6 before 4', header(3) + [w(1, 2), 8], 6, 4, 4)
     pair('7 before 4', header(3) + [w(1, 3), 2, 3], 7, 5, 4)
     pair('5 before a later 3', [w(3, 65536), w(0, 0), w(0, 0)], 5, 0, 3)
-    pair('5 before a later 6', header(33) + clause(34), 5, 2, 6)
+    pair('5 before a later 6', header(129) + clause(130), 5, 2, 6)
     pair('6 before a later 3', header(3) + [w(1, 2), 8, w(3, 0)], 6, 4, 3)
     pair('6 before a later 7', header(3) + clause(1, 4, 1), 6, 5, 7)
     pair('7 before a later 5', header(3) + clause(1, -1) + [w(1, 9)], 7, 5, 5)
@@ -249,7 +277,7 @@ def order():
 # ---------------------------------------------------------------- the two files
 
 def files():
-    for group in (lengths, accepted, wrong_kinds, torn, limits, variables, order):
+    for group in (lengths, accepted, word_ends, wrong_kinds, torn, limits, variables, order):
         group()
     given = b''.join(name.ljust(28).encode() + struct.pack('<H', len(data)) + data for name, data, _ in VECTORS)
     wanted = ''.join(name.ljust(28) + line(answer) + '\n' for name, _, answer in VECTORS).encode()

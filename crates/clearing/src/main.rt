@@ -43,7 +43,10 @@ fn print_line(reply: Reply) {
         print_number(b"batch ", reply.batch);
         print_verdict(reply.verdict);
         print_number(b" calls ", reply.calls);
-        print_number(b" marks ", reply.marks);
+        print_number(b" marks ", reply.marks0);
+        print_number(b" ", reply.marks1);
+        print_number(b" ", reply.marks2);
+        print_number(b" ", reply.marks3);
     }
     io::write_all(STDOUT_FILENO, b"\n");
 }

@@ -1,7 +1,8 @@
 -- What the engine answers, for every plan, budget and sheet (paper 01, "What the library offers" and "When the engine declines").
 use mathlib.Core.Bool.{cond}
-use mathlib.Core.List.{List}
+use mathlib.Core.List.{List, [], _∷_}
 use Prim.Native.Nat.{ℕ}
+use Rattle.words.specs.Bits.{fromWords, wordAt}
 use Rattle.formula.specs.Formula.{Formula}
 use Rattle.formula.specs.Sheet.{Result, accepted, parse}
 use Rattle.code.specs.Code.{code}
@@ -57,17 +58,32 @@ NONE = 2
 abbrev pub SPENT : ℕ
 SPENT = 3
 
+-- what an assignment and the other numbers of an answer are to a host: the assignment in four words
+abbrev pub replyWith : (verdict batch marks calls number place : ℕ) → Reply
+replyWith verdict batch marks calls number place =
+    record {
+      verdict = verdict;
+      batch = batch;
+      marks0 = wordAt marks 0;
+      marks1 = wordAt marks 1;
+      marks2 = wordAt marks 2;
+      marks3 = wordAt marks 3;
+      calls = calls;
+      number = number;
+      place = place;
+    }
+
 -- the reply of a search, with the number of its verdict
 abbrev pub counts : (verdict batch marks calls : ℕ) → Reply
-counts verdict batch marks calls = record { verdict = verdict; batch = batch; marks = marks; calls = calls; number = 0; place = 0 }
+counts verdict batch marks calls = replyWith verdict batch marks calls 0 0
 
 -- the reply of a refusal
 abbrev pub declines : (number place : ℕ) → Reply
-declines number place = record { verdict = REFUSED; batch = 0; marks = 0; calls = 0; number = number; place = place }
+declines number place = replyWith REFUSED 0 0 0 number place
 
 -- the assignment of a reply, as a number
 unfoldable pub marksOf : Reply → ℕ
-marksOf r = r .marks
+marksOf r = fromWords (r .marks0 ∷ r .marks1 ∷ r .marks2 ∷ r .marks3 ∷ [])
 
 -- A verdict without an assignment has marks 0.
 unfoldable pub numbersOf : ℕ → Verdict → Reply

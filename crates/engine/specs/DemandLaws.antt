@@ -3,8 +3,12 @@ use mathlib.Core.Path.{_≡_, refl, ap, _∙_, subst}
 use mathlib.Core.Logic.{_↔_}
 use mathlib.Core.Bool.{Bool, true, false, cond}
 use mathlib.Core.List.{List}
-use Prim.Native.Nat.{ℕ, _*_, _≤_}
+use Prim.Native.Nat.{ℕ, _*_, _^_, _≤_, _<_}
+use native.Mathlib.Nat.{le-trans}
 use native.Mathlib.Omega.{arith}
+use lib.Pow.{pow-mono, pow-pos}
+use Rattle.words.specs.Bits.{width}
+use Rattle.words.specs.WordLaws.{words-number}
 use Rattle.words.specs.ListLaws.{apart}
 use Rattle.formula.specs.Formula.{Formula, WellFormed}
 use Rattle.formula.specs.Sheet.{Result, accepted, parse}
@@ -84,11 +88,11 @@ module _ (b : ℕ) where
   spent-number (Budget.Answer.none c) = (λ e. absurd (omega arith), λ (d, e). apart (cc))
   spent-number (Budget.spent c) = (λ e. (c, refl), λ h. refl)
 
-  pub marks-number : (a : Budget.Answer) → marksOf (numbersOf b (answered a)) ≡ assignmentOf a
+  pub marks-number : (a : Budget.Answer) → assignmentOf a < 2 ^ width → marksOf (numbersOf b (answered a)) ≡ assignmentOf a
   unfolding marksOf numbersOf assignmentOf
-  marks-number (Budget.clear m c) = refl
-  marks-number (Budget.Answer.none c) = refl
-  marks-number (Budget.spent c) = refl
+  marks-number (Budget.clear m c) h = words-number m h
+  marks-number (Budget.Answer.none c) h = words-number 0 h
+  marks-number (Budget.spent c) h = words-number 0 h
 
   pub calls-number : (a : Budget.Answer) → numbersOf b (answered a) .calls ≡ countOf a
   unfolding numbersOf countOf
@@ -113,7 +117,7 @@ unfolding replyTo decision
 reply-answered p A s = by-plan (coded? (p .size) (p .radius)) refl
   where
     by-answer : (f : Formula) → Accepted p s f → (a : Budget.Answer) → Answered p s (numbersOf (f .batch) (answered a))
-    by-answer f h (Budget.clear m c) = unfold numbersOf in is-clear h
+    by-answer f h (Budget.clear m c) = unfold numbersOf in is-clear m h
     by-answer f h (Budget.Answer.none c) = unfold numbersOf in is-none h
     by-answer f h (Budget.spent c) = unfold numbersOf in is-spent h
 
@@ -129,24 +133,32 @@ reply-answered p A s = by-plan (coded? (p .size) (p .radius)) refl
 -- ---- demand 2
 
 -- the numbers of a correct answer are right
-pub numbers-right : (f : Formula) (needed A : ℕ) (a : Budget.Answer) → Correct (f .n) (f .clauses) needed A a →
+pub numbers-right : (f : Formula) (needed A : ℕ) (a : Budget.Answer) → f .n ≤ width → Correct (f .n) (f .clauses) needed A a →
     Right f needed A (numbersOf (f .batch) (answered a))
-numbers-right f needed A a k =
+numbers-right f needed A a small k =
     let b = f .batch in
     record {
       clear = λ l. (λ e. k .clear l .0 (clear-number b a .0 e), λ x. clear-number b a .1 (k .clear l .1 x));
-      model = λ e. rw (marks-number b a) (k .model (clear-number b a .0 e));
+      model =
+          λ e.
+          let model = k .model (clear-number b a .0 e) in
+          rw (marks-number b a (le-trans (model .0) (pow-mono small))) model;
       none = λ l. (λ e. k .none l .0 (none-number b a .0 e), λ x. none-number b a .1 (k .none l .1 x));
       count = λ l. calls-number b a ∙ k .count l;
       spent = (λ e. k .spent .0 (spent-number b a .0 e), λ x. spent-number b a .1 (k .spent .1 x));
-      full = λ e. rw (marks-number b a, calls-number b a) (k .full (spent-number b a .0 e));
+      full =
+          λ e.
+          let full = k .full (spent-number b a .0 e) in
+          rw (marks-number b a (rw (full .1) (pow-pos width)), calls-number b a) full;
       batch = batch-number b a;
     }
 
 pub reply-right : (p : Plan) (A : ℕ) (s : List ℕ) (f : Formula) → Accepted p s f → Right f (calls (outcome p f)) A (replyTo p A s)
 reply-right p A s f h =
-    let decides = outcome-decides p f (parse-well-formed s f (h .sheet)) in
-    rw (reply-accepted p A s f h) (numbers-right f _ A _ (answer-correct (f .n) (f .clauses) (outcome p f) decides A))
+    let formed = parse-well-formed s f (h .sheet) in
+    let decides = outcome-decides p f formed in
+    rw (reply-accepted p A s f h)
+    (numbers-right f _ A _ (formed .variables) (answer-correct (f .n) (f .clauses) (outcome p f) decides A))
 
 -- ---- demand 3
 

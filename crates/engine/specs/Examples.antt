@@ -1,11 +1,11 @@
--- The settled examples of paper 01 and the one of paper 4 of 02, proved from the definitions by one joint statement about one table.
+-- The settled examples of paper 01, the one of paper 4 of 02 and one over four words, proved from the definitions by one joint statement about one table.
 use mathlib.Core.Path.{_≡_, refl}
 use mathlib.Core.Bool.{true, false}
-use mathlib.Core.List.{List, [], _∷_, map}
+use mathlib.Core.List.{List, [], _∷_, _++_, map}
 use Prim.Native.Nat.{ℕ, _^_}
 use lib.ListN.{take, replicate}
 use Rattle.words.specs.Lists.{some, every, keep, count, first, span}
-use Rattle.words.specs.Bits.{bit, toggle, distance}
+use Rattle.words.specs.Bits.{bit, toggle, distance, wordAt}
 use Rattle.formula.specs.Formula as Formula
 use Rattle.formula.specs.Formula.{Literal, Clause, Formula}
 use Rattle.formula.specs.Sheet as Sheet
@@ -40,7 +40,8 @@ pub data Question : Type 0 where
 
 -- the numbers of an answer
 numbers : Reply → List ℕ
-numbers r = r .verdict ∷ r .batch ∷ r .marks ∷ r .calls ∷ r .number ∷ r .place ∷ []
+numbers r =
+    r .verdict ∷ r .batch ∷ r .marks0 ∷ r .marks1 ∷ r .marks2 ∷ r .marks3 ∷ r .calls ∷ r .number ∷ r .place ∷ []
 
 answerNumbers : Answer → List ℕ
 answerNumbers (Number n) = n ∷ []
@@ -70,14 +71,17 @@ opposites = sheet 1 ((pos 1 ∷ []) ∷ (neg 1 ∷ []) ∷ [])
 abbrev all-four : Formula
 all-four = sheet 2 ((pos 1 ∷ pos 2 ∷ []) ∷ (pos 1 ∷ neg 2 ∷ []) ∷ (neg 1 ∷ pos 2 ∷ []) ∷ (neg 1 ∷ neg 2 ∷ []) ∷ [])
 
-abbrev the-clear : ℕ → ℕ → List ℕ
-the-clear marks calls = CLEAR ∷ 0 ∷ marks ∷ calls ∷ 0 ∷ 0 ∷ []
+abbrev no-marks : List ℕ
+no-marks = 0 ∷ 0 ∷ 0 ∷ 0 ∷ []
+
+abbrev the-clear : List ℕ → ℕ → List ℕ
+the-clear marks calls = CLEAR ∷ 0 ∷ marks ++ (calls ∷ 0 ∷ 0 ∷ [])
 
 abbrev the-none : ℕ → List ℕ
-the-none calls = NONE ∷ 0 ∷ 0 ∷ calls ∷ 0 ∷ 0 ∷ []
+the-none calls = NONE ∷ 0 ∷ no-marks ++ (calls ∷ 0 ∷ 0 ∷ [])
 
 abbrev the-spent : ℕ → List ℕ
-the-spent calls = SPENT ∷ 0 ∷ 0 ∷ calls ∷ 0 ∷ 0 ∷ []
+the-spent calls = SPENT ∷ 0 ∷ no-marks ++ (calls ∷ 0 ∷ 0 ∷ [])
 
 pub record Row : Type 0 where
   pub question : Question
@@ -88,15 +92,16 @@ row q a = record { question = q; answer = a }
 
 pub examples : List Row
 examples =
-    row (run-of 3 1 1 (sheet 0 [])) (the-clear 0 1)
+    row (run-of 3 1 1 (sheet 0 [])) (the-clear no-marks 1)
     ∷ row (run-of 3 1 9 (sheet 0 ([] ∷ []))) (the-none 1)
-    ∷ row (run-of 3 1 9 (sheet 3 ((pos 1 ∷ pos 2 ∷ []) ∷ (neg 1 ∷ neg 3 ∷ []) ∷ (neg 3 ∷ []) ∷ []))) (the-clear 1 2)
+    ∷ row (run-of 3 1 9 (sheet 3 ((pos 1 ∷ pos 2 ∷ []) ∷ (neg 1 ∷ neg 3 ∷ []) ∷ (neg 3 ∷ []) ∷ []))) (the-clear (1 ∷ 0 ∷ 0 ∷ 0 ∷ []) 2)
     ∷ row (run-of 1 1 2 opposites) (the-none 2)
     ∷ row (run-of 1 1 1 opposites) (the-spent 1)
     ∷ row (run-of 1 0 2 opposites) (the-none 2)
     ∷ row (run-of 2 1 6 all-four) (the-none 6)
     ∷ row (run-of 2 2 5 all-four) (the-none 5)
     ∷ row (run-of 3 3 2 (sheet 3 ((pos 1 ∷ []) ∷ (pos 2 ∷ pos 3 ∷ []) ∷ (neg 1 ∷ []) ∷ []))) (the-none 2)
+    ∷ row (run-of 1 1 9 (sheet 128 ((pos 128 ∷ []) ∷ (pos 33 ∷ []) ∷ (neg 32 ∷ []) ∷ []))) (the-clear (0 ∷ 1 ∷ 0 ∷ 2 ^ 31 ∷ []) 3)
     ∷ row (code-of 2 1) (0 ∷ 1 ∷ [])
     ∷ row (code-of 3 1) (0 ∷ 7 ∷ [])
     ∷ row (code-of 4 1) (0 ∷ 7 ∷ 8 ∷ 15 ∷ [])
@@ -108,7 +113,7 @@ examples =
 -- Each answer is the one that the definitions give.
 pub examples-hold : map (λ r. ask (r .question)) examples ≡ map (λ r. r .answer) examples
 unfolding examples ask numbers answerNumbers wordsIn
-    some every keep count first span bit toggle distance
+    some every keep count first span bit toggle distance wordAt
     Formula.bitOf Formula.met Formula.someMet Formula.allTrue Formula.names Formula.literalWord Formula.literalOf
     Sheet.wordOf Sheet.words Sheet.kind Sheet.value Sheet._>>=_ Sheet._>>_ Sheet.refuse-when
     Sheet.take-word Sheet.take-number Sheet.take-literal

@@ -22,7 +22,7 @@ pub data Answered (p : Plan) (s : List ℕ) : Reply → Type 0 where
   bad-plan : coded? (p .size) (p .radius) ≡ false → Answered p s (declines BAD-PLAN 0)
   bad-sheet : {number place : ℕ} → coded? (p .size) (p .radius) ≡ true → Reason s number place →
       Answered p s (declines number place)
-  is-clear : {f : Formula} {m c : ℕ} → Accepted p s f → Answered p s (counts CLEAR (f .batch) m c)
+  is-clear : {f : Formula} {c : ℕ} (m : ℕ) → Accepted p s f → Answered p s (counts CLEAR (f .batch) m c)
   is-none : {f : Formula} {c : ℕ} → Accepted p s f → Answered p s (counts NONE (f .batch) 0 c)
   is-spent : {f : Formula} {c : ℕ} → Accepted p s f → Answered p s (counts SPENT (f .batch) 0 c)
 

@@ -18,6 +18,7 @@ use tree::Found;
 use words::Assignment;
 use words::Refusal;
 ghost use mathlib.Core.Path.{_≡_};
+ghost use Rattle.words.specs.Machine.{bitsOf};
 ghost use Rattle.tree.specs.Machine.{answerIn};
 ghost use Rattle.search.specs.Run.{plan};
 ghost use Rattle.engine.specs.Answers.{answered, decision, counts, declines, numbersOf, replyTo};
@@ -46,12 +47,16 @@ pub struct Decision {
     pub verdict: Verdict,
 }
 
-// A decision as numbers, for a host in C (include/engine.h).
+// A decision as numbers, for a host in C (include/engine.h): the words of the assignment are an
+// array there.
 #[repr(C)]
 pub struct Reply {
     pub verdict: u32,
     pub batch: u32,
-    pub marks: u32,
+    pub marks0: u32,
+    pub marks1: u32,
+    pub marks2: u32,
+    pub marks3: u32,
     pub calls: u32,
     pub number: u32,
     pub place: u32,
@@ -98,13 +103,16 @@ pub fn decide(size: u32, radius: u32, budget: u32, sheet: &[u8]) -> Decision
 }
 
 // The reply of a search, with the number of its verdict.
-fn counted(verdict: u32, batch: u32, marks: u32, calls: u32) -> Reply
-    ensures { λ r. ⌜ r ≡ counts verdict batch marks calls ⌝ }
+fn counted(verdict: u32, batch: u32, marks: Assignment, calls: u32) -> Reply
+    ensures { λ r. ⌜ r ≡ counts verdict batch (bitsOf marks) calls ⌝ }
 {
     Reply {
         verdict,
         batch,
-        marks,
+        marks0: marks.w0,
+        marks1: marks.w1,
+        marks2: marks.w2,
+        marks3: marks.w3,
         calls,
         number: 0,
         place: 0,
@@ -118,7 +126,10 @@ pub fn declined(number: u32, place: u32) -> Reply
     Reply {
         verdict: REFUSED,
         batch: 0,
-        marks: 0,
+        marks0: 0,
+        marks1: 0,
+        marks2: 0,
+        marks3: 0,
         calls: 0,
         number,
         place,
@@ -130,10 +141,11 @@ fn numbers(decision: Decision) -> Reply
 {
     let batch = decision.batch;
     let verdict = decision.verdict;
+    let zero = Assignment::zero();
     match verdict {
-        Verdict::Clear(model, calls) => counted(CLEAR, batch, model.word, calls),
-        Verdict::None(calls) => counted(NONE, batch, 0, calls),
-        Verdict::Spent(calls) => counted(SPENT, batch, 0, calls),
+        Verdict::Clear(model, calls) => counted(CLEAR, batch, model, calls),
+        Verdict::None(calls) => counted(NONE, batch, zero, calls),
+        Verdict::Spent(calls) => counted(SPENT, batch, zero, calls),
         Verdict::Refused(refusal) => declined(refusal.number, refusal.place),
     }
 }

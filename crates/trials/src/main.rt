@@ -109,7 +109,9 @@ fn print_pair(name: &[u8], a: u32, other: &[u8], b: u32) {
 
 fn print_reply(reply: Reply) {
     print_pair(b" verdict ", reply.verdict, b" batch ", reply.batch);
-    print_pair(b" marks ", reply.marks, b" calls ", reply.calls);
+    print_pair(b" marks ", reply.marks0, b" ", reply.marks1);
+    print_pair(b" ", reply.marks2, b" ", reply.marks3);
+    print_number(b" calls ", reply.calls as u64);
     print_pair(b" number ", reply.number, b" place ", reply.place);
     io::write_all(STDOUT_FILENO, b"\n");
 }
@@ -125,17 +127,24 @@ fn report(case: Case, budget: u32, reply: Reply, counts: Counts) -> Counts {
 fn same(a: Reply, b: Reply) -> bool {
     a.verdict == b.verdict
         && a.batch == b.batch
-        && a.marks == b.marks
+        && a.marks0 == b.marks0
+        && a.marks1 == b.marks1
+        && a.marks2 == b.marks2
+        && a.marks3 == b.marks3
         && a.calls == b.calls
         && a.number == b.number
         && a.place == b.place
 }
 
+// The sheets have so few variables that an assignment is its first word.
 fn counted(verdict: u32, batch: u32, marks: u32, calls: u32) -> Reply {
     Reply {
         verdict,
         batch,
-        marks,
+        marks0: marks,
+        marks1: 0,
+        marks2: 0,
+        marks3: 0,
         calls,
         number: 0,
         place: 0,
@@ -147,7 +156,7 @@ fn expected(case: Case, reply: Reply) -> Reply {
     if reply.verdict == engine::SPENT {
         counted(engine::SPENT, case.batch, 0, BUDGET)
     } else if case.model {
-        counted(engine::CLEAR, case.batch, reply.marks, reply.calls)
+        counted(engine::CLEAR, case.batch, reply.marks0, reply.calls)
     } else {
         counted(engine::NONE, case.batch, 0, reply.calls)
     }
@@ -166,7 +175,7 @@ fn agrees(case: Case, reply: Reply, table: &[u32]) -> bool
     if reply.verdict != engine::CLEAR {
         return true;
     }
-    reply.marks >> case.n == 0 && meets(reply.marks, table, case.clauses)
+    reply.marks0 >> case.n == 0 && meets(reply.marks0, table, case.clauses)
 }
 
 // The sheet once more, with a budget whose answer is known.

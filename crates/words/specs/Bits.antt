@@ -1,9 +1,8 @@
 -- The bits of a natural number, of any width: an assignment, a set of variables and a code word are such numbers.
 use mathlib.Core.Bool.{Bool}
-use mathlib.Core.List.{List}
-use Prim.Native.Nat.{ℕ, _/_, _%_, _^_}
+use mathlib.Core.List.{List, [], _∷_}
+use Prim.Native.Nat.{ℕ, _+_, _*_, _/_, _%_, _^_}
 use lib.Dec.{eqb}
-use lib.ListN.{getD}
 use lib.Bits.{bitXor}
 use lib.Count.{ones}
 
@@ -21,8 +20,13 @@ distance a b = ones (bitXor a b)
 
 -- how many variables an assignment has room for
 abbrev pub width : ℕ
-width = 32
+width = 128
 
--- the number of an assignment as a host in C lends it, in words of 32 bits, the lowest first: one word
+-- the number of an assignment as a host in C has it, in words of 32 bits, the lowest first
 unfoldable pub fromWords : List ℕ → ℕ
-fromWords ws = getD ws 0 0
+fromWords [] = 0
+fromWords (w ∷ ws) = fromWords ws * 2 ^ 32 + w
+
+-- word i of a number
+unfoldable pub wordAt : ℕ → ℕ → ℕ
+wordAt m i = m / 2 ^ (32 * i) % 2 ^ 32

@@ -1,14 +1,18 @@
 -- What the machine's assignment reads as, and the words in which a host in C lends one.
 use mathlib.Core.Path.{_≡_}
-use mathlib.Core.List.{List}
+use mathlib.Core.List.{List, [], _∷_}
 use Prim.Native.Nat.{ℕ, _/_, _^_, _≤_, _<_}
 use lib.ListN.{length, getD}
 use Rattle.words.specs.declared.Assignment.{Assignment}
-use Rattle.words.specs.Bits.{bit, width}
+use Rattle.words.specs.Bits.{bit, width, fromWords}
+
+-- the words of an assignment
+unfoldable pub wordsIn : Assignment → List ℕ
+wordsIn a = a .w0 ∷ a .w1 ∷ a .w2 ∷ a .w3 ∷ []
 
 -- the number whose bits an assignment holds: bit v - 1 is the value of variable v
 unfoldable pub bitsOf : Assignment → ℕ
-bitsOf a = a .word
+bitsOf a = fromWords (wordsIn a)
 
 -- how many words of 32 bits a host lends
 abbrev pub wordCount : ℕ

@@ -2,20 +2,26 @@
 // numbers.
 ghost use mathlib.Core.Path.{_≡_};
 ghost use Prim.Native.Nat.{_+_, _*_, _^_, _<_, min};
-ghost use lib.ListN.{length};
+ghost use lib.ListN.{length, getD, set};
 ghost use Rattle.words.specs.Bits.{bit, toggle, width, fromWords};
-ghost use Rattle.words.specs.Machine.{bitsOf, wordCount, FirstDifference};
+ghost use Rattle.words.specs.Machine.{wordsIn, bitsOf, wordCount, FirstDifference};
 
 // How many variables an assignment has room for (specs/Bits.antt).
-pub const WIDTH: u32 = 32;
+pub const WIDTH: u32 = 128;
 
-// The words of 32 bits that a host in C lends for an assignment.
-pub const WORDS: usize = WIDTH as usize / 32;
+// The bits of a word.
+const BITS: u32 = 32;
 
-// An assignment, or a set of variables: bit v - 1 of its number (specs/Machine.antt) belongs to
-// variable v.
+// The words of an assignment, which a host in C lends as an array.
+pub const WORDS: usize = (WIDTH / BITS) as usize;
+
+// An assignment, or a set of variables, in words of 32 bits, the lowest first: bit v - 1 of its
+// number (specs/Machine.antt) belongs to variable v.
 pub struct Assignment {
-    pub word: u32,
+    pub w0: u32,
+    pub w1: u32,
+    pub w2: u32,
+    pub w3: u32,
 }
 
 // Why an input is declined: number and place as in the paper's table of refusals.
@@ -28,54 +34,112 @@ impl Assignment {
     pub fn zero() -> Assignment
         ensures { λ r. ⌜ bitsOf r ≡ 0 ⌝ }
     {
-        Assignment { word: 0 }
+        Assignment {
+            w0: 0,
+            w1: 0,
+            w2: 0,
+            w3: 0,
+        }
     }
 
-    pub fn from_words(words: &[u32; WORDS]) -> Assignment
+    // From the words that a host lent,
+    pub fn from_words(words: &[u32]) -> Assignment
+        requires { ⌜ length (now words) ≡ wordCount ⌝ }
         ensures { λ r. ⌜ bitsOf r ≡ fromWords (now (words .entry)) ⌝ }
     {
-        Assignment { word: words[0] }
+        Assignment {
+            w0: words[0],
+            w1: words[1],
+            w2: words[2],
+            w3: words[3],
+        }
     }
 
-    // Into the words that a host lent.
+    // and into them.
     pub fn store(self, words: &mut [u32])
         requires { ⌜ length (now words) ≡ wordCount ⌝ }
         ensures { λ r. ⌜ fromWords (now (words .exit)) ≡ bitsOf self ⌝ }
     {
-        words[0] = self.word;
+        words[0] = self.w0;
+        words[1] = self.w1;
+        words[2] = self.w2;
+        words[3] = self.w3;
+    }
+
+    // Word i. The first is asked for first: small sheets have no other.
+    fn word(self, i: u32) -> u32
+        requires { ⌜ i < wordCount ⌝ }
+        ensures { λ r. ⌜ r ≡ getD (wordsIn self) i 0 ⌝ }
+    {
+        if i == 0 {
+            self.w0
+        } else if i == 1 {
+            self.w1
+        } else if i == 2 {
+            self.w2
+        } else {
+            self.w3
+        }
+    }
+
+    // The assignment with another word i; past the last there is none to change.
+    fn with_word(self, i: u32, word: u32) -> Assignment
+        ensures { λ r. ⌜ wordsIn r ≡ set (wordsIn self) i word ⌝ }
+    {
+        let mut r = self;
+        if i == 0 {
+            r.w0 = word;
+        } else if i == 1 {
+            r.w1 = word;
+        } else if i == 2 {
+            r.w2 = word;
+        } else if i == 3 {
+            r.w3 = word;
+        }
+        r
     }
 
     pub fn test(self, v: u32) -> bool
         requires { ⌜ v < width ⌝ }
         ensures { λ r. ⌜ r ≡ bit (bitsOf self) v ⌝ }
     {
-        (self.word >> v) % 2 == 1
+        (self.word(v / BITS) >> (v % BITS)) % 2 == 1
     }
 
     pub fn toggled(self, v: u32) -> Assignment
         requires { ⌜ v < width ⌝ }
         ensures { λ r. ⌜ bitsOf r ≡ toggle (bitsOf self) v ⌝ }
     {
-        Assignment {
-            word: self.word ^ (1u32 << v),
-        }
+        let i = v / BITS;
+        self.with_word(i, self.word(i) ^ (1u32 << (v % BITS)))
     }
 
     // The lowest bit in which the two differ, or WIDTH where they are the same.
     pub fn first_difference(self, other: Assignment) -> u32
         ensures { λ r. ⌜ FirstDifference width (bitsOf self) (bitsOf other) r ⌝ }
     {
-        u32::trailing_zeros(self.word ^ other.word)
+        let mut i = 0;
+        while i < WIDTH / BITS {
+            let differ = self.word(i) ^ other.word(i);
+            if differ != 0 {
+                return BITS * i + u32::trailing_zeros(differ);
+            }
+            i += 1;
+        }
+        WIDTH
     }
 
-    // The bits of word above the lowest `shift` bits, which are self's.
+    // The bits of word above the lowest `shift` bits, which are self's: they begin in one word and
+    // may end in the next.
     pub fn joined(self, word: u32, shift: u32) -> Assignment
-        requires { ⌜ (shift < width) × (bitsOf self < 2 ^ shift) × (word * 2 ^ shift < 2 ^ width) ⌝ }
+        requires { ⌜ (shift < width) × (bitsOf self < 2 ^ shift) × (word * 2 ^ shift + bitsOf self < 2 ^ width) ⌝ }
         ensures { λ r. ⌜ bitsOf r ≡ word * 2 ^ shift + bitsOf self ⌝ }
     {
-        Assignment {
-            word: self.word | (word << shift),
-        }
+        let i = shift / BITS;
+        let both = (self.word(i) as u64) | ((word as u64) << (shift % BITS));
+        let low = (both % (1u64 << BITS)) as u32;
+        let high = (both >> BITS) as u32;
+        self.with_word(i, low).with_word(i + 1, high)
     }
 }
 

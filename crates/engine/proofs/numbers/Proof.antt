@@ -1,11 +1,13 @@
 -- `numbers` meets its contract, variant by variant.
 use mathlib.Core.Path.{_∙_}
 use borrow.Author.Needs.{needs}
-use Rattle.words.specs.Machine.{bitsOf}
 use Rattle.engine.specs.Answers.{numbersOf}
 use Rattle.engine.specs.Machine.{verdictIn, decisionIn}
 use Rattle.engine.proofs.numbers.Statement.{statement}
 use Rattle.engine.proofs.numbers.Tie as tie
+
+zero-requires : tie.Need-zero-requires
+zero-requires c κs = search needs
 
 enum-known-verdict : tie.Need-enum-known-verdict
 enum-known-verdict c = search needs
@@ -32,16 +34,16 @@ declined-requires : tie.Need-declined-requires
 declined-requires c κs = search needs
 
 returns : tie.Need-returns
-unfolding numbersOf decisionIn verdictIn bitsOf
+unfolding numbersOf decisionIn verdictIn
 returns c = c .counted .ensures ∙ rw (c .before .before .verdict .given .1)
 
 returns-2 : tie.Need-returns-2
 unfolding numbersOf decisionIn verdictIn
-returns-2 c = c .counted2 .ensures ∙ rw (c .before .before .verdict2 .given .1)
+returns-2 c = c .counted2 .ensures ∙ rw (c .before .before .verdict2 .given .1, c .before .before .before .before .zero .ensures)
 
 returns-3 : tie.Need-returns-3
 unfolding numbersOf decisionIn verdictIn
-returns-3 c = c .counted3 .ensures ∙ rw (c .before .before .verdict3 .given .1)
+returns-3 c = c .counted3 .ensures ∙ rw (c .before .before .verdict3 .given .1, c .before .before .before .before .zero .ensures)
 
 returns-4 : tie.Need-returns-4
 unfolding numbersOf decisionIn verdictIn
@@ -51,6 +53,7 @@ pub numbers-spec : {M : Type 1} → statement M
 numbers-spec =
     tie.close
     (tie.spec
+    zero-requires
     enum-known-verdict
     counted-requires
     enum-known-verdict-2

@@ -55,14 +55,14 @@ sub-toggled : tie.Need-sub-toggled
 sub-toggled c = search needs
 
 toggled-requires : tie.Need-toggled-requires
-toggled-requires c κs = omega (arith, bounds (c .before .before), ready (c .before .before .before .before .before) .0)
+toggled-requires c κs = omega (arith, bounds (c .before .before .before), ready (c .before .before .before .before .before .before) .0)
 
 store-requires : tie.Need-store-requires
 store-requires c κs = search needs
 
 pass-requires : tie.Need-pass-requires
 pass-requires c κs =
-    let r = ready (c .before .before .before .before .before .before .before .before .before .before .before) in
+    let r = ready (c .before .before .before .before .before .before .before .before .before .before .before .before) in
     (table-wider _ width _ _ (r .0) (r .1), search needs)
 
 enum-known-refusal : tie.Need-enum-known-refusal
@@ -73,7 +73,7 @@ unfolding tallyIn changed
 returns-2 c =
     let changes = c .before .before .before .before in
     let turned = changes .before .before in
-    let known = turned .before .before .before in
+    let known = turned .before .before .before .before in
     let read = known .before .before .before in
     let v = read .before .before .before .before .before .before .args .variable in
     let b = bounds known in

@@ -29,8 +29,9 @@ from-words-requires-2 c κs = search needs
 
 clause-reading-requires : tie.Need-clause-reading-requires
 clause-reading-requires c κs =
-    let known = c .before .before .before .before .batch .given in
-    let ready = read-ready _ _ _ _ _ _ (c .before .before .before .before .before .before .read-sheet .ensures) (known .1) in
+    let read = c .before .before .before .before .before .before in
+    let known = read .batch .given in
+    let ready = read-ready _ _ _ _ _ _ (read .before .before .read-sheet .ensures) (known .1) in
     table-wider _ width _ _ (ready .0) (ready .1)
 
 enum-known-refusal : tie.Need-enum-known-refusal
@@ -39,11 +40,11 @@ enum-known-refusal c = search needs
 returns : tie.Need-returns
 unfolding readingIn
 returns c =
-    let known = c .before .before .before .before .before .batch .given in
     let read = c .before .before .before .before .before .before .before in
+    let known = read .batch .given in
     let state = ap₂ {C = State} (λ (m f : ℕ). record { assignment = m; flipped = f })
-    (c .before .before .before .from-words .ensures) (c .before .before .from-words2 .ensures) in
-    counts-read _ _ _ _ _ (read .read-sheet .ensures) _ _ _ (known .1) (readingIn (c .clause-reading .result))
+    (c .before .before .before .before .from-words .ensures) (c .before .before .from-words2 .ensures) in
+    counts-read _ _ _ _ _ (read .before .before .read-sheet .ensures) _ _ _ (known .1) (readingIn (c .clause-reading .result))
     (c .clause-reading .ensures)
     ∙ ap (clauseCountsTo _ _) state
 

@@ -1,10 +1,6 @@
--- `Assignment::store` meets its contract: the one word is the number.
-use Prim.Native.Nat.{_<_}
-use native.Mathlib.Omega.{arith}
-use lib.ListN.{length}
-use lib.Seq.{getD-set-same}
-use Rattle.words.specs.Bits.{fromWords}
-use Rattle.words.specs.Machine.{bitsOf}
+-- `Assignment::store` meets its contract: each word goes to its place.
+use Rattle.words.specs.Machine.{bitsOf, wordsIn}
+use Rattle.words.specs.WordLaws.{words-listed}
 use borrow.Author.Needs.{needs}
 use Rattle.words.proofs.Assignment.store.Statement.{statement}
 use Rattle.words.proofs.Assignment.store.Tie as tie
@@ -12,14 +8,21 @@ use Rattle.words.proofs.Assignment.store.Tie as tie
 slice-write-words : tie.Need-slice-write-words
 slice-write-words c = search needs
 
+slice-write-words-2 : tie.Need-slice-write-words-2
+slice-write-words-2 c = search needs
+
+slice-write-words-3 : tie.Need-slice-write-words-3
+slice-write-words-3 c = search needs
+
+slice-write-words-4 : tie.Need-slice-write-words-4
+slice-write-words-4 c = search needs
+
 same-length : tie.Need-same-length
 same-length c = search needs
 
 returns : tie.Need-returns
-unfolding bitsOf fromWords
-returns c =
-    let inside : 0 < length (c .args .words .now) = omega arith in
-    getD-set-same (c .args .words .now) 0 _ 0 inside
+unfolding bitsOf wordsIn
+returns c = rw (words-listed (c .args .words .now) (c .pre))
 
 pub store-spec : {M : Type 1} → statement M
-store-spec = tie.close (tie.spec slice-write-words same-length returns)
+store-spec = tie.close (tie.spec slice-write-words slice-write-words-2 slice-write-words-3 slice-write-words-4 same-length returns)

@@ -2,8 +2,8 @@
 -- stands yet.
 use mathlib.Core.Path.{_≡_, refl, ap, _∙_}
 use mathlib.Core.List.{List}
-use Prim.Native.Nat.{ℕ, _+_, _*_, _%_, _^_, _≤_, _<_}
-use native.Mathlib.Nat.{mod-lt}
+use Prim.Native.Nat.{ℕ, _+_, _*_, _%_, _^_, _<_}
+use native.Mathlib.Nat.{le-trans, mod-lt}
 use native.Mathlib.Omega.{arith}
 use borrow.Author.Needs.{needs}
 use lib.ListN.{getD}
@@ -42,10 +42,8 @@ joined-requires c κs =
     let a = s .args in
     let p = s .pre in
     let word = c .before .wide-u16 in
-    let h : word .result * 2 ^ a .self .shift + bitsOf (a .self .assignment) < 2 ^ (a .self .shift + a .size) =
-    joined-lt _ _ (a .self .left) _ _ _ (a .code .now) (p .0) (p .1 .1 .1) (word .ensures .0) in
-    let room : 2 ^ (a .self .shift + a .size) ≤ 2 ^ width = pow-mono (p .1 .1 .0 .1) in
-    (omega arith, p .1 .1 .1, omega arith)
+    let h = joined-lt _ _ (a .self .left) _ _ _ (a .code .now) (p .0) (p .1 .1 .1) (word .ensures .0) in
+    (omega arith, p .1 .1 .1, le-trans h (pow-mono {j = width} (p .1 .1 .0 .1)))
 
 add-t15 : tie.Need-add-t15
 add-t15 c = search needs
