@@ -20,7 +20,7 @@ use Rattle.tree.specs.Budget.{Answer}
 use Rattle.tree.specs.BudgetLaws.{settle, onward, onward-none, onward-stops, none-made, rest-ends, rest-goes-on}
 use Rattle.tree.specs.Machine.{answerIn}
 use Rattle.planes.specs.Machine.{planeCells}
-use Rattle.search.specs.declared.ball.Path.{Path}
+use Rattle.search.specs.declared.path.Path.{Path}
 use Rattle.search.specs.Run.{Block, Search, ball, centreAt, centreCount, summedRadius}
 use Rattle.search.specs.CallLaws.{ball-some}
 use Rattle.search.specs.Machine.{stateIn, centred, callFrom, Shows, Toggles, Moves, Matched, searchIn, ballsFrom, Before}

@@ -1,12 +1,11 @@
--- What the planes tell of a state: the clause that the rule takes, and what a flip leaves.
+-- What the planes tell of a state, at the start and after a flip.
 use mathlib.Core.Path.{_≡_, refl, sym, ap, _∙_}
 use mathlib.Core.Bool.{Bool, true, false, not, Bool·beq, and-true, and-false}
-use mathlib.Core.List.{List, []}
+use mathlib.Core.List.{List}
 use Prim.Native.Nat.{ℕ, _+_, _/_, _≤_, _<_}
 use native.Mathlib.Omega.{arith}
 use lib.ListN.{length}
-use Rattle.words.specs.Lists.{some, every, count}
-use Rattle.words.specs.ListLaws.{in-some}
+use Rattle.words.specs.Lists.{every, count}
 use Rattle.words.specs.Bits.{toggle, width}
 use Rattle.words.specs.BitLaws.{digit, bit-zero, bit-toggle-same}
 use Rattle.words.specs.CountLaws.{count-same, digit-not}
@@ -14,14 +13,11 @@ use Rattle.formula.specs.Formula.{Literal, Clause, WellFormedClause, bitOf, met
 use Rattle.formula.specs.Counts.{signCount, opposite, Steps}
 use Rattle.formula.specs.CountLaws.{names?, is, opposite-lt, both-count, same-bit, same-is, other-is, other-bit, other-met, literal-toggles, count-steps, met-steps, none-is, none-count}
 use Rattle.formula.specs.Machine.{IsLiteral, held, clauseAt}
-use Rattle.formula.specs.TableLaws.{held-in}
-use Rattle.formula.specs.HeldLaws.{held-every, held-fails, held-none, held-first}
-use Rattle.planes.specs.Machine.{rowCount, firstCounter, secondCounter, planeCells, Counts, Picked, both, lowest, Starts, Shifted, AboveZero}
+use Rattle.planes.specs.Machine.{rowCount, firstCounter, secondCounter, planeCells, Counts, Starts, Shifted, AboveZero}
 use Rattle.planes.specs.CountsLaws.{shifted-counts}
-use Rattle.search.specs.Ball.{State, isFlipped, isOpen, reading, isTrue, isDead, flip, tried, skip}
-use Rattle.search.specs.ReadingLaws.{open-is, true-met, dead-false, dead-reading}
-use Rattle.search.specs.RuleLaws.{rule-dead, rule-tried, select-first}
-use Rattle.search.specs.Machine.{centred, Ready, Tryable, Begins, Chosen, Flips, Toggles, Settles}
+use Rattle.search.specs.Ball.{State, isFlipped, isOpen, reading, flip}
+use Rattle.search.specs.ReadingLaws.{open-is, true-met}
+use Rattle.search.specs.Machine.{centred, Ready, Tryable, Begins, Flips, Toggles, Settles}
 
 -- ---- what is counted
 
@@ -65,41 +61,6 @@ begins n k occ planes size negative positive =
             «open» = counts-same start-open (positive .counts cells t o);
           };
     }
-
--- ---- the clause that the rule takes
-
-pub chosen : (k : ℕ) (cells : List ℕ) (s : State) (r : ℕ) →
-    Picked k cells (λ c. reading s c .met) (λ c. reading s c .«open») r → Chosen k cells s r
--- some clause is dead
-chosen k cells s r (both i inside e more) =
-    let dead : isDead s (clauseAt cells i) ≡ true = dead-reading s (clauseAt cells i) ∙ e in
-    record {
-      all = λ q. absurd (omega arith);
-      some = λ q. held-fails k cells (isTrue s) i inside (dead-false s (clauseAt cells i) dead);
-      dead = λ q. rule-dead (held k cells) s (in-some (isDead s) (held k cells) (clauseAt cells i) (held-in k cells i inside) dead);
-      literals = λ q. absurd (omega arith);
-      failing = λ q. absurd (omega arith);
-    }
--- no clause is dead: the first one that is false
-chosen k cells s r (lowest none f) =
-    record {
-      all = λ e. held-every k cells (isTrue s) (λ i l. before i (omega arith));
-      some = λ e. let l : r < k = omega (arith, f .within) in held-fails k cells (isTrue s) r l (here l);
-      dead = λ l. absurd (omega (arith, f .within));
-      literals = λ l.
-          let first = held-first k cells (λ c. not (isTrue s c)) r [] l (ap not (here l)) (λ i h. ap not (before i h)) in
-          rule-tried (held k cells) s alive ∙ ap (tried (skip (held k cells)) s) (select-first (held k cells) s ∙ first);
-      failing = here;
-    }
-  where
-    before : (i : ℕ) → i < r → isTrue s (clauseAt cells i) ≡ true
-    before i h = true-met s (clauseAt cells i) ∙ ap not (f .before i (omega arith) h)
-
-    here : r < k → isTrue s (clauseAt cells r) ≡ false
-    here l = true-met s (clauseAt cells r) ∙ ap not (f .here l)
-
-    alive : some (isDead s) (held k cells) ≡ false
-    alive = held-none k cells (isDead s) (λ i l. dead-reading s (clauseAt cells i) ∙ none .before i (omega arith) l)
 
 -- ---- a flip
 

@@ -9,6 +9,7 @@ pub mod CentreLaws
 pub mod RunLaws
 pub mod CallLaws
 pub mod CountLaws
+pub mod ChoiceLaws
 pub mod ClauseLaws
 pub mod MachineLaws
 pub mod BallsLaws

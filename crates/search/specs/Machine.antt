@@ -10,14 +10,15 @@ use Rattle.words.specs.Bits.{bit, toggle, width}
 use Rattle.words.specs.BitLaws.{digit}
 use Rattle.words.specs.Machine.{bitsOf}
 use Rattle.formula.specs.Formula.{Literal, bitOf, met, literalOf}
-use Rattle.formula.specs.Machine.{Table, IsLiteral, held, clauseAt, lengthAt}
+use Rattle.formula.specs.Machine.{Table, IsLiteral, held, clauseAt, lengthAt, literalAt}
 use Rattle.tree.specs.declared.Found.{Found}
 use Rattle.tree.specs.Explore.{Outcome, none, try}
 use Rattle.tree.specs.Budget.{Answer}
 use Rattle.tree.specs.BudgetLaws.{settle, rest}
 use Rattle.tree.specs.Machine.{answerIn}
 use Rattle.planes.specs.Machine.{firstCounter, secondCounter, planeCells, Occurs, Counts}
-use Rattle.search.specs.declared.ball.Path.{Path}
+use Rattle.search.specs.declared.path.Path.{Path}
+use Rattle.search.specs.declared.choice.Choice.{Choice}
 use Rattle.search.specs.declared.reading.Reading.{Reading as ClauseReading}
 use Rattle.search.specs.Ball.{State, Reading, reading, isTrue, isFlipped, isOpen, flip, isTried, tried, skip, rule, ballSearch}
 use Rattle.search.specs.Run.{Block, Search, plan, blocks, summedRadius, centreAt, ball, centreCount}
@@ -55,13 +56,25 @@ pub record Begins (n k : ℕ) (occ planes : List ℕ) : Type 0 where
   pub size : length planes ≡ planeCells
   pub shows : (cells : List ℕ) → Table n k cells → Occurs k cells occ → Shows k cells (centred 0) planes
 
--- r is the number of the clause whose literals the rule tries, k where all clauses are true, or more where some clause is dead.
-pub record Chosen (k : ℕ) (cells : List ℕ) (s : State) (r : ℕ) : Type 0 where
-  pub all : r ≡ k → every (isTrue s) (held k cells) ≡ true
-  pub some : (r ≡ k → ⊥) → every (isTrue s) (held k cells) ≡ false
-  pub dead : k < r → rule (held k cells) s ≡ []
-  pub literals : r < k → rule (held k cells) s ≡ tried (skip (held k cells)) s (clauseAt cells r)
-  pub failing : r < k → isTrue s (clauseAt cells r) ≡ false
+-- Bit j of r says of each of the first `size` literals of a clause whether it passes the test, and r has no other bits.
+pub record Flags (cells : List ℕ) (clause size : ℕ) (test : Literal → Bool) (r : ℕ) : Type 0 where
+  pub each : (j : ℕ) → j < size → bit r j ≡ test (literalOf (literalAt cells clause j))
+  pub below : r < 2 ^ size
+
+-- What a call branches on: a clause that is false, and those of its literals that are tried.
+pub record Branch (k : ℕ) (cells : List ℕ) (s : State) (r : Choice) : Type 0 where
+  pub inside : r .clause < k
+  pub failing : isTrue s (clauseAt cells (r .clause)) ≡ false
+  pub flags : Flags cells (r .clause) (lengthAt cells (r .clause)) (isTried (skip (held k cells)) s) (r .tried)
+
+-- The choice of a call: the clause whose literals the rule tries, or else k where all clauses are true, or more where some clause is
+-- dead.
+pub record Chosen (k : ℕ) (cells : List ℕ) (s : State) (r : Choice) : Type 0 where
+  pub all : r .clause ≡ k → every (isTrue s) (held k cells) ≡ true
+  pub some : (r .clause ≡ k → ⊥) → every (isTrue s) (held k cells) ≡ false
+  pub dead : k < r .clause → rule (held k cells) s ≡ []
+  pub literals : r .clause < k → rule (held k cells) s ≡ tried (skip (held k cells)) s (clauseAt cells (r .clause))
+  pub branch : r .clause < k → Branch k cells s r
 
 -- The flip of a literal in a call: the planes show the state after it,
 pub record Flips (k literal : ℕ) (occ from to : List ℕ) : Type 0 where
@@ -113,35 +126,34 @@ literalsFrom k cells left s ls = try (attemptFrom k cells left s) ls
 
 -- What the literals of a clause from number j on are tried with: the clause is false, there is a flip for a call, and the calls
 -- made so far are within the budget.
-pub record Trying (k : ℕ) (cells occ planes : List ℕ) (s : State) (clause j left calls budget : ℕ) : Type 0 where
+pub record Trying (k : ℕ) (cells occ planes : List ℕ) (s : State) (choice : Choice) (j left calls budget : ℕ) : Type 0 where
   pub ready : Ready k cells occ
   pub shows : Shows k cells s planes
-  pub inside : clause < k
-  pub failing : isTrue s (clauseAt cells clause) ≡ false
+  pub branch : Branch k cells s choice
   pub flips : 0 < left
   pub enough : calls ≤ budget
-  pub more : j ≤ lengthAt cells clause
+  pub more : j ≤ lengthAt cells (choice .clause)
 
 -- Before literal j in the loop over the literals of a clause: those still to come, with `made` calls counted, give what all of them
 -- give with `calls` counted.
-pub record Turn (k : ℕ) (cells occ planes : List ℕ) (s : State) (clause left calls budget made j : ℕ) : Type 0 where
-  pub trying : Trying k cells occ planes s clause j left made budget
-  pub same : settle budget made (literalsFrom k cells left s (drop j (clauseAt cells clause)))
-      ≡ settle budget calls (literalsFrom k cells left s (clauseAt cells clause))
+pub record Turn (k : ℕ) (cells occ planes : List ℕ) (s : State) (choice : Choice) (left calls budget made j : ℕ) : Type 0 where
+  pub trying : Trying k cells occ planes s choice j left made budget
+  pub same : settle budget made (literalsFrom k cells left s (drop j (clauseAt cells (choice .clause))))
+      ≡ settle budget calls (literalsFrom k cells left s (clauseAt cells (choice .clause)))
 
--- What one literal is tried with: it is not met.
+-- What one literal is tried with: it may be tried.
 pub record Attempting (k : ℕ) (cells occ planes : List ℕ) (s : State) (literal left calls budget : ℕ) : Type 0 where
   pub ready : Ready k cells occ
   pub shows : Shows k cells s planes
   pub known : IsLiteral literal
-  pub unmet : met (s .assignment) (literalOf literal) ≡ false
+  pub tryable : Tryable s (literalOf literal)
   pub flips : 0 < left
   pub enough : calls ≤ budget
 
 -- one literal where one flip is left, so that its call is the last on its path
 pub record LastAttempt (k : ℕ) (occ planes : List ℕ) (s : State) (literal budget made : ℕ) (r : Found) : Type 0 where
   pub answer : (cells : List ℕ) → Attempting k cells occ planes s literal 1 made budget →
-      answerIn r ≡ settle budget made (attemptFrom k cells 1 s (literalOf literal))
+      answerIn r ≡ settle budget made (callFrom k cells 0 (flip s (literalOf literal)))
 
 -- ---- the blocks and their centres
 

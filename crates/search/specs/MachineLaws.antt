@@ -9,7 +9,7 @@ use native.Mathlib.Omega.{arith}
 use lib.ListN.{drop}
 use types.Run.{OneOf}
 use denote.Enum.Declared.{tagOf}
-use Rattle.words.specs.Bits.{width}
+use Rattle.words.specs.Bits.{bit, width}
 use Rattle.words.specs.Machine.{bitsOf}
 use Rattle.words.specs.declared.Assignment.{Assignment}
 use Rattle.formula.specs.Formula.{Literal, Clause, literalOf}
@@ -26,7 +26,8 @@ use Rattle.search.specs.Ball.{State, flip, isTried, tried, skip, rule}
 use Rattle.search.specs.ReadingLaws.{false-unmet}
 use Rattle.search.specs.RuleLaws.{tried-fresh}
 use Rattle.search.specs.CallLaws.{search-spent, search-clear, search-none, search-literals, try-tried}
-use Rattle.search.specs.Machine.{Tryable, Chosen, Settles, Trying, Turn, Attempting, LastAttempt, callFrom, attemptFrom, literalsFrom}
+use Rattle.search.specs.declared.choice.Choice.{Choice}
+use Rattle.search.specs.Machine.{Chosen, Settles, Trying, Turn, Attempting, LastAttempt, callFrom, attemptFrom, literalsFrom}
 
 module _ (k : ℕ) (cells : List ℕ) (left : ℕ) (s : State) (A c : ℕ) where
   -- ---- one call
@@ -35,12 +36,12 @@ module _ (k : ℕ) (cells : List ℕ) (left : ℕ) (s : State) (A c : ℕ) where
   unfolding callFrom
   in-spent = search-spent A c (held k cells) (rule (held k cells)) left s
 
-  module _ (r : ℕ) (enough : c < A) (f : Chosen k cells s r) where
-    pub in-clear : r ≡ k → settle A c (callFrom k cells left s) ≡ clear (s .assignment) (c + 1)
+  module _ (r : Choice) (enough : c < A) (f : Chosen k cells s r) where
+    pub in-clear : r .clause ≡ k → settle A c (callFrom k cells left s) ≡ clear (s .assignment) (c + 1)
     unfolding callFrom
     in-clear e = search-clear A c (held k cells) (rule (held k cells)) left s enough (f .all e)
 
-    module _ (more : r ≡ k → ⊥) where
+    module _ (more : r .clause ≡ k → ⊥) where
       pub in-none : left ≡ 0 → settle A c (callFrom k cells left s) ≡ Answer.none (c + 1)
       unfolding callFrom
       in-none = search-none A c (held k cells) (rule (held k cells)) left s enough (f .some more)
@@ -54,15 +55,15 @@ module _ (k : ℕ) (cells : List ℕ) (left : ℕ) (s : State) (A c : ℕ) where
             search-literals A c (held k cells) (rule (held k cells)) left s (f .some more) (omega arith)
             ∙ ap (λ (tries : List Literal). settle A (c + 1) (try (λ l. callFrom k cells (left - 1) (flip s l)) tries)) e
 
-        pub in-dead : k < r → settle A c (callFrom k cells left s) ≡ Answer.none (c + 1)
+        pub in-dead : k < r .clause → settle A c (callFrom k cells left s) ≡ Answer.none (c + 1)
         in-dead e = in-rule [] (f .dead e) ∙ settle-nil A (c + 1) _ (omega arith)
 
-        pub in-literals : r < k →
-            settle A c (callFrom k cells left s) ≡ settle A (c + 1) (literalsFrom k cells left s (clauseAt cells r))
+        pub in-literals : r .clause < k →
+            settle A c (callFrom k cells left s) ≡ settle A (c + 1) (literalsFrom k cells left s (clauseAt cells (r .clause)))
         unfolding literalsFrom attemptFrom tried
         in-literals e =
             in-rule _ (f .literals e)
-            ∙ ap (settle A (c + 1)) (try-tried _ (isTried (skip (held k cells)) s) (clauseAt cells r))
+            ∙ ap (settle A (c + 1)) (try-tried _ (isTried (skip (held k cells)) s) (clauseAt cells (r .clause)))
 
   -- ---- its literals
 
@@ -77,12 +78,11 @@ module _ (k : ℕ) (cells : List ℕ) (left : ℕ) (s : State) (A c : ℕ) where
   in-step l ls = settle-cons A c (attemptFrom k cells left s) l ls
 
   module _ (l : Literal) where
-    pub in-passed : isTried (skip (held k cells)) s l ≡ false → c ≤ A →
-        settle A c (attemptFrom k cells left s l) ≡ Answer.none c
+    in-passed : isTried (skip (held k cells)) s l ≡ false → c ≤ A → settle A c (attemptFrom k cells left s l) ≡ Answer.none c
     unfolding attemptFrom
     in-passed e h = rw e (settle-none A c h)
 
-    pub in-tried : isTried (skip (held k cells)) s l ≡ true →
+    in-tried : isTried (skip (held k cells)) s l ≡ true →
         settle A c (attemptFrom k cells left s l) ≡ settle A c (callFrom k cells (left - 1) (flip s l))
     unfolding attemptFrom
     in-tried e = rw e
@@ -95,34 +95,42 @@ not-none r tag made e =
     let none : OneOf (0 ∷ 2 ∷ []) 1 = subst (λ (x : Found). OneOf (0 ∷ 2 ∷ []) (tagOf the-type x)) e tag in
     ⊎-elim (λ (z : 1 ≡ 0). omega arith) (λ (z : 1 ≡ 2). omega arith) none
 
-module _ {k : ℕ} {cells occ planes : List ℕ} {s : State} {clause j left calls budget : ℕ}
-    (t : Trying k cells occ planes s clause j left calls budget) where
-  pub trying-row : Row cells clause
-  trying-row = table-row (t .ready .table) clause (t .inside)
+module _ {k : ℕ} {cells occ planes : List ℕ} {s : State} {choice : Choice} {j left calls budget : ℕ}
+    (t : Trying k cells occ planes s choice j left calls budget) where
+  pub trying-row : Row cells (choice .clause)
+  trying-row = table-row (t .ready .table) (choice .clause) (t .branch .inside)
 
   -- there is a literal j
-  module _ (h : j < lengthAt cells clause) where
-    pub trying-known : IsLiteral (literalAt cells clause j)
-    trying-known = clause-known width k cells (t .ready .table) clause (t .inside) j h
+  module _ (h : j < lengthAt cells (choice .clause)) where
+    pub trying-known : IsLiteral (literalAt cells (choice .clause) j)
+    trying-known = clause-known width k cells (t .ready .table) (choice .clause) (t .branch .inside) j h
 
-    pub trying-attempt : Attempting k cells occ planes s (literalAt cells clause j) left calls budget
-    trying-attempt =
+    trying-flag : {b : Bool} → bit (choice .tried) j ≡ b →
+        isTried (skip (held k cells)) s (literalOf (literalAt cells (choice .clause) j)) ≡ b
+    trying-flag e = sym (t .branch .flags .each j h) ∙ e
+
+    -- where it is tried it may be tried
+    pub trying-attempt : bit (choice .tried) j ≡ true →
+        Attempting k cells occ planes s (literalAt cells (choice .clause) j) left calls budget
+    trying-attempt e =
         record {
           ready = t .ready;
           shows = t .shows;
           known = trying-known;
-          unmet = false-unmet s (clauseAt cells clause) (t .failing) _ (row-in trying-row j h);
+          tryable = record {
+            unmet = false-unmet s (clauseAt cells (choice .clause)) (t .branch .failing) _ (row-in trying-row j h);
+            fresh = tried-fresh (skip (held k cells)) s _ (trying-flag e);
+          };
           flips = t .flips;
           enough = t .enough;
         }
 
-    trying-next : (made : ℕ) → made ≤ budget → Trying k cells occ planes s clause (j + 1) left made budget
+    trying-next : (made : ℕ) → made ≤ budget → Trying k cells occ planes s choice (j + 1) left made budget
     trying-next made e =
         record {
           ready = t .ready;
           shows = t .shows;
-          inside = t .inside;
-          failing = t .failing;
+          branch = t .branch;
           flips = t .flips;
           enough = e;
           more = omega (arith, h);
@@ -130,94 +138,93 @@ module _ {k : ℕ} {cells occ planes : List ℕ} {s : State} {clause j left call
 
 -- ---- the loop over the literals
 
-pub turn-start : {k : ℕ} {cells occ planes : List ℕ} {s : State} {clause left calls budget : ℕ} →
-    Trying k cells occ planes s clause 0 left calls budget → Turn k cells occ planes s clause left calls budget calls 0
+pub turn-start : {k : ℕ} {cells occ planes : List ℕ} {s : State} {choice : Choice} {left calls budget : ℕ} →
+    Trying k cells occ planes s choice 0 left calls budget → Turn k cells occ planes s choice left calls budget calls 0
 turn-start t = record { trying = t; same = refl }
 
-module _ {k : ℕ} {cells occ planes : List ℕ} {s : State} {clause left calls budget made j : ℕ}
-    (turn : Turn k cells occ planes s clause left calls budget made j) where
+module _ {k : ℕ} {cells occ planes : List ℕ} {s : State} {choice : Choice} {left calls budget made j : ℕ}
+    (turn : Turn k cells occ planes s choice left calls budget made j) where
+  abbrev clause : Clause
+  clause = clauseAt cells (choice .clause)
+
   abbrev whole : Answer
-  whole = settle budget calls (literalsFrom k cells left s (clauseAt cells clause))
+  whole = settle budget calls (literalsFrom k cells left s clause)
 
   -- no literal is left
-  pub turn-end : lengthAt cells clause ≤ j → answerIn (None made) ≡ whole
+  pub turn-end : lengthAt cells (choice .clause) ≤ j → answerIn (None made) ≡ whole
   unfolding answerIn
   turn-end h =
       let t = turn .trying in
-      let end : drop j (clauseAt cells clause) ≡ [] = row-end (trying-row t) j h in
+      let end : drop j clause ≡ [] = row-end (trying-row t) j h in
       sym (in-end k cells left s budget made (t .enough)) ∙ (rw end at (turn .same))
 
-  -- after literal j: its answer, and after none the literals after it
-  module _ (h : j < lengthAt cells clause) (r : Found)
-      (gave : answerIn r ≡ settle budget made (attemptFrom k cells left s (literalOf (literalAt cells clause j)))) where
-    abbrev rest-of : ℕ → Answer
-    rest-of d = settle budget d (literalsFrom k cells left s (drop (j + 1) (clauseAt cells clause)))
+  -- what literal j gives, and after none the literals after it
+  module _ (h : j < lengthAt cells (choice .clause)) where
+    abbrev literal : Literal
+    literal = literalOf (literalAt cells (choice .clause) j)
 
-    onwards : onward (answerIn r) rest-of ≡ whole
-    onwards =
-        let cons : drop j (clauseAt cells clause) ≡ literalOf (literalAt cells clause j) ∷ drop (j + 1) (clauseAt cells clause) =
-        rw add-one (row-cons (trying-row (turn .trying)) j h) in
-        ap (λ (a : Answer). onward a rest-of) gave
-        ∙ sym (in-step k cells left s budget made _ (drop (j + 1) (clauseAt cells clause)))
+    abbrev rest-of : ℕ → Answer
+    rest-of d = settle budget d (literalsFrom k cells left s (drop (j + 1) clause))
+
+    onwards : (a : Answer) → a ≡ settle budget made (attemptFrom k cells left s literal) → onward a rest-of ≡ whole
+    onwards a gave =
+        let cons : drop j clause ≡ literal ∷ drop (j + 1) clause = rw add-one (row-cons (trying-row (turn .trying)) j h) in
+        ap (λ (x : Answer). onward x rest-of) gave
+        ∙ sym (in-step k cells left s budget made _ (drop (j + 1) clause))
         ∙ (rw cons at (turn .same))
 
-    pub turn-stops : ((m : ℕ) → r ≡ None m → ⊥) → answerIn r ≡ whole
-    turn-stops h′ = sym (onward-stops r rest-of h′) ∙ onwards
-
-    pub turn-next : (m : ℕ) → r ≡ None m → Turn k cells occ planes s clause left calls budget m (j + 1)
-    turn-next m f =
+    -- It is not tried;
+    pub turn-passed : bit (choice .tried) j ≡ false → Turn k cells occ planes s choice left calls budget made (j + 1)
+    turn-passed e =
+        let t = turn .trying in
         record {
-          trying = trying-next (turn .trying) h m (none-made r budget made m _ gave f .1);
-          same = sym (onward-none r rest-of m f) ∙ onwards;
+          trying = trying-next t h made (t .enough);
+          same = onwards (Answer.none made) (sym (in-passed k cells left s budget made literal (trying-flag t h e) (t .enough)));
         }
 
--- ---- one literal
+    -- or it is, and its call answers.
+    module _ (e : bit (choice .tried) j ≡ true) (r : Found)
+        (gave : answerIn r ≡ settle budget made (callFrom k cells (left - 1) (flip s literal))) where
+      tried-onwards : onward (answerIn r) rest-of ≡ whole
+      tried-onwards =
+          onwards (answerIn r) (gave ∙ sym (in-tried k cells left s budget made literal (trying-flag (turn .trying) h e)))
 
--- a literal that is tried may be tried
-pub attempt-tryable : {k : ℕ} {cells occ planes : List ℕ} {s : State} {literal left calls budget : ℕ} →
-    Attempting k cells occ planes s literal left calls budget → isTried (skip (held k cells)) s (literalOf literal) ≡ true →
-    Tryable s (literalOf literal)
-attempt-tryable {k} {cells} {s = s} a tried = record { unmet = a .unmet; fresh = tried-fresh (skip (held k cells)) s _ tried }
+      pub turn-stops : ((m : ℕ) → r ≡ None m → ⊥) → answerIn r ≡ whole
+      turn-stops h′ = sym (onward-stops r rest-of h′) ∙ tried-onwards
+
+      pub turn-next : (m : ℕ) → r ≡ None m → Turn k cells occ planes s choice left calls budget m (j + 1)
+      turn-next m f =
+          record {
+            trying = trying-next (turn .trying) h m (none-made r budget made m _ gave f .1);
+            same = sym (onward-none r rest-of m f) ∙ tried-onwards;
+          }
 
 -- ---- one literal with one flip left
 
-module _ (k : ℕ) (occ planes : List ℕ) (s : State) (literal A c : ℕ) (t : Bool)
-    (tests : (cs : List Clause) → t ≡ isTried (skip cs) s (literalOf literal)) where
+module _ (k : ℕ) (occ planes : List ℕ) (s : State) (literal A c : ℕ) where
   abbrev Last : Found → Type 0
   Last = LastAttempt k occ planes s literal A c
 
-  pub last-passed : t ≡ false → Last (None c)
+  abbrev after : State
+  after = flip s (literalOf literal)
+
+  pub last-spent : A ≤ c → Last (Spent A)
   unfolding answerIn
-  last-passed e = record { answer = λ cells a. sym (in-passed k cells 1 s A c (literalOf literal) (sym (tests _) ∙ e) (a .enough)) }
+  last-spent h = record { answer = λ cells a. sym (in-spent k cells 0 after A c h) }
 
-  module _ (tried : t ≡ true) where
-    abbrev after : State
-    after = flip s (literalOf literal)
-
-    -- what its call gives is what the literal gives
-    last-tried : (r : Found) →
-        ((cells : List ℕ) → Attempting k cells occ planes s literal 1 c A → Tryable s (literalOf literal) →
-        answerIn r ≡ settle A c (callFrom k cells 0 after)) → Last r
-    last-tried r gives =
+  module _ (b : Bool) (settles : Settles k literal occ planes b) (enough : c < A) where
+    pub last-clear : b ≡ true → (m : Assignment) → bitsOf m ≡ after .assignment → Last (Clear m (c + 1))
+    unfolding answerIn callFrom
+    last-clear e m v =
         record {
           answer = λ cells a.
-              let e = sym (tests _) ∙ tried in
-              gives cells a (attempt-tryable a e) ∙ sym (in-tried k cells 1 s A c (literalOf literal) e);
+              rw v (sym (search-clear A c _ _ 0 after enough (settles .answer cells s (a .ready) (a .shows) (a .tryable) ∙ e)));
         }
 
-    pub last-spent : A ≤ c → Last (Spent A)
-    unfolding answerIn
-    last-spent h = last-tried (Spent A) (λ cells a u. sym (in-spent k cells 0 after A c h))
-
-    module _ (b : Bool) (settles : Settles k literal occ planes b) (enough : c < A) where
-      pub last-clear : b ≡ true → (m : Assignment) → bitsOf m ≡ after .assignment → Last (Clear m (c + 1))
-      unfolding answerIn callFrom
-      last-clear e m v =
-          last-tried (Clear m (c + 1))
-          (λ cells a u. rw v (sym (search-clear A c _ _ 0 after enough (settles .answer cells s (a .ready) (a .shows) u ∙ e))))
-
-      pub last-none : b ≡ false → Last (None (c + 1))
-      unfolding answerIn callFrom
-      last-none e =
-          last-tried (None (c + 1))
-          (λ cells a u. sym (search-none A c _ _ 0 after enough (settles .answer cells s (a .ready) (a .shows) u ∙ e) refl))
+    pub last-none : b ≡ false → Last (None (c + 1))
+    unfolding answerIn callFrom
+    last-none e =
+        record {
+          answer = λ cells a.
+              sym (search-none A c _ _ 0 after enough (settles .answer cells s (a .ready) (a .shows) (a .tryable) ∙ e) refl);
+        }

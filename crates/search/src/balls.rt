@@ -1,9 +1,9 @@
 // The balls in order, within the budget: the planes move from each centre to the next.
-use crate::ball::Path;
 use crate::ball::call;
 use crate::centre::Layout;
 use crate::centre::centre;
 use crate::counts;
+use crate::path::Path;
 use planes::OCCURRENCES;
 use planes::PLANES;
 use tree::Found;

@@ -1,14 +1,12 @@
 // What the search counts of each clause: how many of its literals are met, and how many are open,
 // not met and not flipped.
-ghost use mathlib.Core.List.{List};
 ghost use mathlib.Core.Path.{_≡_};
-ghost use Prim.Native.Nat.{ℕ, _≤_};
+ghost use Prim.Native.Nat.{_≤_};
 ghost use lib.ListN.{length};
 ghost use Rattle.words.specs.Bits.{width};
 ghost use Rattle.formula.specs.Machine.{IsLiteral};
 ghost use Rattle.planes.specs.Machine.{laneCount, planeCells};
-ghost use Rattle.search.specs.Ball.{State};
-ghost use Rattle.search.specs.Machine.{Shows, Begins, Chosen, Flips, Toggles, Settles};
+ghost use Rattle.search.specs.Machine.{Begins, Flips, Toggles, Settles};
 use planes::OCCURRENCES;
 use planes::PLANES;
 use planes::Rows;
@@ -19,15 +17,6 @@ pub fn start(occ: &[u64; OCCURRENCES], n: u32, k: usize) -> [u64; PLANES]
     ensures { λ r. ⌜ Begins n k (now (occ .entry)) r ⌝ }
 {
     planes::start(occ, n, k)
-}
-
-// The number of the clause whose literals a call tries, k where all clauses are true, or more where
-// some clause is dead, with no literal met and none open.
-pub fn choose(planes: &[u64; PLANES], k: usize) -> usize
-    requires { ⌜ k ≤ laneCount ⌝ }
-    ensures { λ r. ⌜ ((cells : List ℕ) (s : State) → Shows k cells s (now (planes .entry)) → Chosen k cells s r) ⌝ }
-{
-    planes::pick(planes, k)
 }
 
 // The planes after the flip of a literal that is open: its opposite, met before, is flipped now, so

@@ -2,8 +2,10 @@
 mod ball;
 mod balls;
 mod centre;
+mod choice;
 mod counts;
 mod layout;
+mod path;
 mod reading;
 
 pub use reading::Reading;

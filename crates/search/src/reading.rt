@@ -1,6 +1,6 @@
 // The reading of one clause, literal by literal. (The search holds the readings of all clauses in
 // planes: counts.rt.)
-use crate::ball::Path;
+use crate::path::Path;
 use words::Assignment;
 ghost use mathlib.Core.Path.{_≡_};
 ghost use mathlib.Core.List.{[]};

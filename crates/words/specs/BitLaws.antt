@@ -2,7 +2,7 @@
 use mathlib.Core.Path.{_≡_, refl, sym, ap, ap₂, _∙_}
 use mathlib.Core.Bool.{Bool, true, false, cond, not, xor, _&&_, _||_, true≢false, Bool·not-not}
 use Prim.Native.Nat.{ℕ, zero, suc, _+_, _*_, _/_, _%_, _^_, _<_, suc-le-suc, min, max}
-use native.Mathlib.Nat.{add-suc, suc-inj, div-lt-iff-lt-mul, pow-suc, div-one, zero-div, mod-lt, mul-mod-left, mul-div-cancel, mul-add-mod-self-right, not-suc-le-zero, le-of-suc-le-suc}
+use native.Mathlib.Nat.{add-suc, suc-inj, div-lt-iff-lt-mul, div-eq-of-lt, pow-suc, div-one, zero-div, mod-lt, mul-mod-left, mul-div-cancel, mul-add-mod-self-right, not-suc-le-zero, le-of-suc-le-suc}
 use native.Mathlib.Numerals.{one-add}
 use native.Mathlib.Omega.{arith}
 use lib.Dec.{eqb, lit<, eqb·zero-suc, eqb·suc-zero, eqb·suc-suc}
@@ -60,6 +60,11 @@ bit-low m = ap (λ (x : ℕ). eqb (x % 2) 1) (div-one m)
 pub bit-zero : (v : ℕ) → bit 0 v ≡ false
 unfolding bit
 bit-zero v = rw (zero-div (2 ^ v))
+
+-- a number below 2^v has no bit v
+pub bit-high : (v m : ℕ) → m < 2 ^ v → bit m v ≡ false
+unfolding bit
+bit-high v m h = rw (div-eq-of-lt h)
 
 -- a power of two has one bit
 pub bit-power : (v w : ℕ) → bit (2 ^ v) w ≡ eqb v w

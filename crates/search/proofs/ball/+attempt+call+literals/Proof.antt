@@ -8,20 +8,21 @@ use mathlib.Core.Bool.{true}
 use Prim.Native.Nat.{ℕ, _+_, _-_, _*_, _<_}
 use native.Mathlib.Nat.{pos-of-ne-zero}
 use native.Mathlib.Omega.{arith}
-use borrow.Author.Tests.{not-true, not-false, leb-true, leb-false, ltb-true, ltb-false}
+use borrow.Author.Tests.{leb-true, leb-false, ltb-true, ltb-false}
 use borrow.Author.Needs.{needs}
 use borrow.Fn.Kinds.{In}
 use borrow.Fn.PlainCycle.{Measures, is, falls, and}
 use lib.ListN.{length}
+use Rattle.words.specs.Bits.{bit}
 use Rattle.planes.specs.Machine.{planeCells}
-use Rattle.formula.specs.Machine.{held, clauseAt, lengthAt, literalAt}
+use Rattle.formula.specs.Machine.{clauseAt, lengthAt, literalAt}
 use Rattle.formula.specs.Formula.{literalOf}
-use Rattle.search.specs.Ball.{State, flip, isTried, skip}
+use Rattle.search.specs.Ball.{State, flip}
 use Rattle.tree.specs.Budget.{Answer}
 use Rattle.tree.specs.BudgetLaws.{settle}
 use Rattle.tree.specs.Machine.{answerIn}
-use Rattle.search.specs.Machine.{stateIn, Chosen, Tryable, Trying, Turn, callFrom, attemptFrom, literalsFrom}
-use Rattle.search.specs.MachineLaws.{in-spent, in-clear, in-none, in-dead, in-literals, in-passed, in-tried, trying-row, trying-attempt, turn-start, turn-end, turn-stops, turn-next, attempt-tryable, not-none}
+use Rattle.search.specs.Machine.{stateIn, Chosen, Trying, Turn, callFrom, literalsFrom}
+use Rattle.search.specs.MachineLaws.{in-spent, in-clear, in-none, in-dead, in-literals, trying-row, trying-attempt, turn-start, turn-end, turn-passed, turn-stops, turn-next, not-none}
 use Rattle.search.proofs.ball.attempt.Reads as attempt
 use Rattle.search.proofs.ball.attempt.Kinds as attempt-kinds
 use Rattle.search.proofs.ball.+attempt+call+literals.Lts-attempt as attempt-lts
@@ -32,12 +33,12 @@ use Rattle.search.proofs.ball.+attempt+call+literals.Lts-call as call-l
 use Rattle.search.proofs.ball.literals.Reads as literals
 use Rattle.search.proofs.ball.literals.Kinds as literals-kinds
 use Rattle.search.proofs.ball.+attempt+call+literals.Lts-literals as literals-lts
-use Rattle.search.proofs.ball.Path.flip.Reads as ball-Path-flip-reads
+use Rattle.search.proofs.path.Path.flip.Reads as path-Path-flip-reads
 use Rattle.formula.proofs.length_at.Reads as length-at-reads
 use Rattle.formula.proofs.literal_at.Reads as literal-at-reads
-use Rattle.search.proofs.ball.Path.tries.Reads as tries-reads
+use Rattle.search.proofs.choice.Choice.tries.Reads as tries-reads
 use Rattle.tree.proofs.exhausted.Reads as exhausted-reads
-use Rattle.search.proofs.counts.choose.Reads as choose-reads
+use Rattle.search.proofs.choice.choose.Reads as choose-reads
 use Rattle.search.proofs.counts.flip.Reads as counts-flip-reads
 use Rattle.search.proofs.ball.+attempt+call+literals.{statement}
 use Rattle.search.proofs.ball.+attempt+call+literals.Tie.{close}
@@ -45,8 +46,8 @@ use Rattle.search.proofs.ball.+attempt+call+literals.Tie.{close}
 abbrev μ-call : Measures 3 call-kinds.ps ℕ
 μ-call κs a = a .1 .1 .1 .1 .1 .0 * 10 + 9
 
-abbrev μ-literals : Measures 4 literals-kinds.ps ℕ
-μ-literals κs a = a .1 .1 .1 .1 .1 .1 .1 .0 * 10 + lengthAt (a .0 .now) (a .1 .1 .1 .1 .1 .1 .0)
+abbrev μ-literals : Measures 3 literals-kinds.ps ℕ
+μ-literals κs a = a .1 .1 .1 .1 .1 .1 .0 * 10 + lengthAt (a .0 .now) (a .1 .1 .1 .1 .1 .0 .clause)
 
 abbrev μ-attempt : Measures 4 attempt-kinds.ps ℕ
 μ-attempt κs a = a .1 .1 .1 .1 .1 .1 .1 .0 * 10
@@ -63,11 +64,11 @@ call-at t = and 3 call-kinds.ps (is 3 call-kinds.ps μ-call t) call.Pre
 abbrev call-below : ℕ → In 3 call-kinds.ps
 call-below t = and 3 call-kinds.ps (falls 3 call-kinds.ps _<_ μ-call t) call.Pre
 
-abbrev literals-at : ℕ → In 4 literals-kinds.ps
-literals-at t = and 4 literals-kinds.ps (is 4 literals-kinds.ps μ-literals t) literals.Pre
+abbrev literals-at : ℕ → In 3 literals-kinds.ps
+literals-at t = and 3 literals-kinds.ps (is 3 literals-kinds.ps μ-literals t) literals.Pre
 
-abbrev literals-below : ℕ → In 4 literals-kinds.ps
-literals-below t = and 4 literals-kinds.ps (falls 4 literals-kinds.ps _<_ μ-literals t) literals.Pre
+abbrev literals-below : ℕ → In 3 literals-kinds.ps
+literals-below t = and 3 literals-kinds.ps (falls 3 literals-kinds.ps _<_ μ-literals t) literals.Pre
 
 -- what each may take for granted of the functions that it calls
 abbrev call-claims : ℕ → call-lts.Claims
@@ -86,6 +87,8 @@ abbrev literals-claims : ℕ → literals-lts.Claims
 literals-claims t = (
   length-at-reads.Asked,
   length-at-reads.Learnt,
+  tries-reads.Asked,
+  tries-reads.Learnt,
   literal-at-reads.Asked,
   literal-at-reads.Learnt,
   attempt-below t,
@@ -94,12 +97,10 @@ literals-claims t = (
 
 abbrev attempt-claims : ℕ → attempt-lts.Claims
 attempt-claims t = (
-  tries-reads.Asked,
-  tries-reads.Learnt,
   counts-flip-reads.Asked,
   counts-flip-reads.Learnt,
-  ball-Path-flip-reads.Asked,
-  ball-Path-flip-reads.Learnt,
+  path-Path-flip-reads.Asked,
+  path-Path-flip-reads.Learnt,
   call-below t,
   call.Post,
 )
@@ -122,12 +123,12 @@ module _ (t : ℕ) where
   enough c = leb-false _ _ (sym (c .before .exhausted .ensures) ∙ c .if1 .left)
 
   call-choose-requires : call-lts.Need-choose-requires (call-claims t) (call-at t) call.Post
-  call-choose-requires c κs = c .before .before .pre .1 .0 .table .room
+  call-choose-requires c κs = (c .before .before .pre .1 .0 .table, c .before .before .pre .1 .1)
 
-  -- what the number of the chosen clause says
+  -- what the choice says
   first : (c : call-lts.After-choose (call-claims t) (call-at t) call.Post) →
       let a = c .before .before .before .args in Chosen (a .k) (a .cells .now) (stateIn (a .at)) (c .choose .result)
-  first c = c .choose .ensures _ _ (c .before .before .before .pre .1 .1)
+  first c = c .choose .ensures
 
   call-add-t14 : call-lts.Need-add-t14 (call-claims t) (call-at t) call.Post
   call-add-t14 c = omega (arith, enough (c .before .before .before))
@@ -145,20 +146,20 @@ module _ (t : ℕ) where
   unfolding answerIn stateIn
   call-returns-3 c =
       let chosen = c .before .before in
-      let clause = chosen .choose .result in
+      let choice = chosen .choose .result in
       ⊎-elim
-      (λ q. sym (in-none _ _ _ _ _ _ clause (enough (chosen .before)) (first chosen) (c .before .if2 .left) (q .taken)))
+      (λ q. sym (in-none _ _ _ _ _ _ choice (enough (chosen .before)) (first chosen) (c .before .if2 .left) (q .taken)))
       (λ q.
       let dead = ltb-true _ _ (q .1 .taken) in
-      sym (in-dead _ _ _ _ _ _ clause (enough (chosen .before)) (first chosen) (c .before .if2 .left) (q .0 .left) dead))
+      sym (in-dead _ _ _ _ _ _ choice (enough (chosen .before)) (first chosen) (c .before .if2 .left) (q .0 .left) dead))
       (c .if3 .came)
 
   -- there is a clause to branch on, and a flip for the calls of its literals
   module _ (c : call-lts.Else4 (call-claims t) (call-at t) call.Post) where
-    inside : let chosen = c .before .before .before in chosen .choose .result < chosen .before .before .before .args .k
+    inside : let chosen = c .before .before .before in chosen .choose .result .clause < chosen .before .before .before .args .k
     inside =
         let chosen = c .before .before .before in
-        let alive = ltb-false (chosen .before .before .before .args .k) (chosen .choose .result) (c .if4 .left) in
+        let alive = ltb-false (chosen .before .before .before .args .k) (chosen .choose .result .clause) (c .if4 .left) in
         omega (arith, c .before .before .if2 .left, alive)
 
     tried-with : let chosen = c .before .before .before in
@@ -171,8 +172,7 @@ module _ (t : ℕ) where
         record {
           ready = s .pre .1 .0;
           shows = s .pre .1 .1;
-          inside = inside;
-          failing = first chosen .failing inside;
+          branch = first chosen .branch inside;
           flips = pos-of-ne-zero (c .before .if3 .left);
           enough = omega (arith, enough (chosen .before));
           more = omega arith;
@@ -181,7 +181,7 @@ module _ (t : ℕ) where
     -- what the call gives is what its literals give
     call-gives : let chosen = c .before .before .before in
         let a = chosen .before .before .before .args in
-        let clause = clauseAt (a .cells .now) (chosen .choose .result) in
+        let clause = clauseAt (a .cells .now) (chosen .choose .result .clause) in
         settle (a .budget) (a .calls) (callFrom (a .k) (a .cells .now) (a .left) (stateIn (a .at))) ≡
         settle (a .budget) (a .calls + 1) (literalsFrom (a .k) (a .cells .now) (a .left) (stateIn (a .at)) clause)
     call-gives =
@@ -199,82 +199,106 @@ module _ (t : ℕ) where
   call-returns-4 c = rw (call-gives (c .before .before), c .before .if5 .taken) (c .last-literals .ensures)
 
   call-add-literals : call-lts.Need-add-literals (call-claims t) (call-at t) call.Post
-  call-add-literals c = omega (arith, enough (c .before .before .before .before .before .before))
+  call-add-literals c = omega (arith, enough (c .before .before .before .before .before))
 
   call-literals-requires : call-lts.Need-literals-requires (call-claims t) (call-at t) call.Post
   call-literals-requires c κs =
-      let d = c .before .before in
+      let d = c .before in
       let s = d .before .before .before .before .before .before in
       let w = tried-with d in
-      (omega (arith, s .pre .0, trying-row w .short, w .flips), (w, refl))
+      (omega (arith, s .pre .0, trying-row w .short, w .flips), w)
 
   call-returns-5 : call-lts.Need-returns-5 (call-claims t) (call-at t) call.Post
-  call-returns-5 c = c .literals .ensures ∙ sym (call-gives (c .before .before .before))
+  call-returns-5 c = c .literals .ensures ∙ sym (call-gives (c .before .before))
 
 -- ---- its literals
 
 abbrev Inv-loop : literals-lts.InvT-loop
-Inv-loop cells occ k planes next₀ at clause left calls budget size made₀ j₀ next made j =
-    Turn k cells occ planes (stateIn at) clause left calls budget made j × (length next ≡ planeCells)
+Inv-loop cells occ k planes at choice left calls budget clause size next₀ made₀ j₀ next made j =
+    Turn k cells occ planes (stateIn at) choice left calls budget made j × (length next ≡ planeCells)
 
 abbrev μ-loop : literals-lts.MeasureT-loop
-μ-loop cells occ k planes next₀ at clause left calls budget size made₀ j₀ next made j = size - j
+μ-loop cells occ k planes at choice left calls budget clause size next₀ made₀ j₀ next made j = size - j
 
 module _ (t : ℕ) where
   literals-length-at-requires : literals-lts.Need-length-at-requires (literals-claims t) (literals-at t) literals.Post Inv-loop μ-loop
-  literals-length-at-requires c κs = trying-row (c .pre .1 .0) .inside
+  literals-length-at-requires c κs = trying-row (c .pre .1) .inside
 
   literals-loop-holds : literals-lts.Need-loop-holds (literals-claims t) (literals-at t) literals.Post Inv-loop μ-loop
-  literals-loop-holds c = (turn-start (c .before .pre .1 .0), c .before .pre .1 .1)
+  literals-loop-holds c = (turn-start (c .before .pre .1), refl)
 
   -- there is a literal j
   more : (c : literals-lts.In-loop (literals-claims t) (literals-at t) literals.Post Inv-loop μ-loop) →
-      let a = c .before .before .before .args in c .before .loop .j < lengthAt (a .cells .now) (a .clause)
+      let a = c .before .before .before .args in c .before .loop .j < lengthAt (a .cells .now) (a .choice .clause)
   more c = omega (arith, c .loop-test .taken, c .before .before .length-at .ensures)
+
+  literals-tries-requires : literals-lts.Need-tries-requires (literals-claims t) (literals-at t) literals.Post Inv-loop μ-loop
+  literals-tries-requires c κs = omega (arith, trying-row (c .before .loop .inv .0 .trying) .short, more c)
+
+  -- the literal is tried
+  tried : (c : literals-lts.Then1 (literals-claims t) (literals-at t) literals.Post Inv-loop μ-loop) →
+      let d = c .before .before .before in bit (d .before .before .args .choice .tried) (d .loop .j) ≡ true
+  tried c = sym (c .before .tries .ensures) ∙ c .if1 .taken
 
   literals-literal-at-requires : literals-lts.Need-literal-at-requires (literals-claims t) (literals-at t) literals.Post Inv-loop μ-loop
   literals-literal-at-requires c κs =
-      let row = trying-row (c .before .loop .inv .0 .trying) in
-      (row .inside, omega (arith, row .short, more c))
+      let d = c .before .before in
+      let row = trying-row (d .before .loop .inv .0 .trying) in
+      (row .inside, omega (arith, row .short, more d))
 
   literals-attempt-requires : literals-lts.Need-attempt-requires (literals-claims t) (literals-at t) literals.Post Inv-loop μ-loop
   literals-attempt-requires c κs =
-      let d = c .before .before in
+      let e = c .before .before in
+      let d = e .before .before in
       let inv = d .before .loop .inv in (
         omega (arith, d .before .before .before .pre .0, more d),
-        (rw (c .before .literal-at .ensures) (trying-attempt (inv .0 .trying) (more d)), inv .1),
+        (rw (c .before .literal-at .ensures) (trying-attempt (inv .0 .trying) (more d) (tried e)), inv .1),
       )
 
   literals-enum-known-tried : literals-lts.Need-enum-known-tried (literals-claims t) (literals-at t) literals.Post Inv-loop μ-loop
   literals-enum-known-tried c = c .match .keys1
 
-  -- what literal j gave
+  -- what its call gave
   gave : (c : literals-lts.After-attempt (literals-claims t) (literals-at t) literals.Post Inv-loop μ-loop) →
-      let turn = c .before .before .before .before in
+      let turn = c .before .before .before .before .before .before in
       let a = turn .before .before .args in
-      let literal = literalOf (literalAt (a .cells .now) (a .clause) (turn .loop .j)) in
-      answerIn (c .attempt .result) ≡
-      settle (a .budget) (turn .loop .made) (attemptFrom (a .k) (a .cells .now) (a .left) (stateIn (a .at)) literal)
+      let literal = literalOf (literalAt (a .cells .now) (a .choice .clause) (turn .loop .j)) in
+      answerIn (c .attempt .result)
+      ≡ settle (a .budget) (turn .loop .made) (callFrom (a .k) (a .cells .now) (a .left - 1) (flip (stateIn (a .at)) literal))
   gave c = rw (c .before .before .literal-at .ensures) at (c .attempt .ensures .0)
 
   literals-returns : literals-lts.Need-returns (literals-claims t) (literals-at t) literals.Post Inv-loop μ-loop
   literals-returns c =
       let a = c .before in
-      let d = a .before .before .before in
-      turn-stops (d .before .loop .inv .0) (more d) _ (gave a) (not-none _ (c .match .keys2))
+      let e = a .before .before .before in
+      let d = e .before .before in
+      turn-stops (d .before .loop .inv .0) (more d) (tried e) _ (gave a) (not-none _ (c .match .keys2))
 
   literals-add-j : literals-lts.Need-add-j (literals-claims t) (literals-at t) literals.Post Inv-loop μ-loop
-  literals-add-j c = search needs
+  literals-add-j c = let d = c .before .before in omega (arith, more d, trying-row (d .before .loop .inv .0 .trying) .short)
 
   literals-loop-less : literals-lts.Need-loop-less (literals-claims t) (literals-at t) literals.Post Inv-loop μ-loop
   literals-loop-less c = search needs
 
   literals-loop-again : literals-lts.Need-loop-again (literals-claims t) (literals-at t) literals.Post Inv-loop μ-loop
   literals-loop-again c =
-      let a = c .before .before .before in
-      let d = a .before .before .before in
-      let e = c .before .tried .given in
-      (turn-next (d .before .loop .inv .0) (more d) _ (gave a) (e .0 .0) (e .1), a .attempt .ensures .1)
+      let d = c .before .before in
+      let inv = d .before .loop .inv in
+      ⊎-elim
+      (λ w.
+      let e : literals-lts.Then1 (literals-claims t) (literals-at t) literals.Post Inv-loop μ-loop =
+      record { before = c .before; if1 = w .0 } in
+      let a : literals-lts.After-attempt (literals-claims t) (literals-at t) literals.Post Inv-loop μ-loop =
+      record { before = record { before = record { before = e; literal-at = w .1 }; next = w .2 }; attempt = w .3 } in
+      let told = w .5 .given in (
+        rw (w .8) (turn-next (inv .0) (more d) (tried e) _ (gave a) (told .0 .0) (told .1)),
+        ap length (w .7) ∙ w .3 .ensures .1,
+      ))
+      (λ w. (
+        rw (w .2) (turn-passed (inv .0) (more d) (sym (c .before .tries .ensures) ∙ w .0 .left)),
+        ap length (w .1) ∙ inv .1,
+      ))
+      (c .if1 .came)
 
   literals-returns-2 : literals-lts.Need-returns-2 (literals-claims t) (literals-at t) literals.Post Inv-loop μ-loop
   literals-returns-2 c =
@@ -283,70 +307,40 @@ module _ (t : ℕ) where
 -- ---- one literal
 
 module _ (t : ℕ) where
-  attempt-tries-requires : attempt-lts.Need-tries-requires (attempt-claims t) (attempt-at t) attempt.Post
-  attempt-tries-requires c κs = c .pre .1 .0 .known
-
-  attempt-returns : attempt-lts.Need-returns (attempt-claims t) (attempt-at t) attempt.Post
-  unfolding answerIn
-  attempt-returns c =
-      let s = c .before .before in
-      let passed = sym (c .before .tries .ensures _) ∙ not-true _ (c .if1 .taken) in
-      (sym (in-passed _ _ _ _ _ _ _ passed (s .pre .1 .0 .enough)), s .pre .1 .1)
-
-  -- the literal is tried
-  module _ (c : attempt-lts.Else1 (attempt-claims t) (attempt-at t) attempt.Post) where
-    tried : let s = c .before .before .args in
-        isTried (skip (held (s .k) (s .cells .now))) (stateIn (s .at)) (literalOf (s .literal)) ≡ true
-    tried = sym (c .before .tries .ensures _) ∙ not-false _ (c .if1 .left)
-
-    tryable : let s = c .before .before .args in Tryable (stateIn (s .at)) (literalOf (s .literal))
-    tryable = attempt-tryable (c .before .before .pre .1 .0) tried
-
-    -- what its call gives is what the literal gives
-    given : let s = c .before .before .args in
-        settle (s .budget) (s .calls) (attemptFrom (s .k) (s .cells .now) (s .left) (stateIn (s .at)) (literalOf (s .literal))) ≡
-        settle (s .budget) (s .calls) (callFrom (s .k) (s .cells .now) (s .left - 1) (flip (stateIn (s .at)) (literalOf (s .literal))))
-    given = in-tried _ _ _ _ _ _ _ tried
-
   attempt-flip-requires : attempt-lts.Need-flip-requires (attempt-claims t) (attempt-at t) attempt.Post
   attempt-flip-requires c κs =
-      let s = c .before .before .before in
+      let s = c .before in
       ((s .pre .1 .0 .ready .table .room, s .pre .1 .0 .known), s .pre .1 .1)
 
   attempt-flip-requires-2 : attempt-lts.Need-flip-requires-2 (attempt-claims t) (attempt-at t) attempt.Post
-  attempt-flip-requires-2 c κs = c .before .before .before .before .pre .1 .0 .known
+  attempt-flip-requires-2 c κs = c .before .before .pre .1 .0 .known
 
   attempt-sub-call : attempt-lts.Need-sub-call (attempt-claims t) (attempt-at t) attempt.Post
-  attempt-sub-call c = c .before .before .before .before .before .before .pre .1 .0 .flips
+  attempt-sub-call c = c .before .before .before .before .pre .1 .0 .flips
 
   attempt-call-requires : attempt-lts.Need-call-requires (attempt-claims t) (attempt-at t) attempt.Post
   attempt-call-requires c κs =
-      let d = c .before .before .before .before in
-      let s = d .before .before in
+      let s = c .before .before .before .before in
       let a = s .pre .1 .0 in
-      let shown = c .before .before .flip .ensures .shows _ _ (a .ready) (tryable d) (a .shows) in
+      let shown = c .before .before .flip .ensures .shows _ _ (a .ready) (a .tryable) (a .shows) in
       (omega (arith, s .pre .0, a .flips), (a .ready, rw (c .before .flip2 .ensures) shown))
 
-  attempt-returns-2 : attempt-lts.Need-returns-2 (attempt-claims t) (attempt-at t) attempt.Post
-  attempt-returns-2 c =
-      let d = c .before .before .before .before .before in
-      let s = d .before .before .args in
+  attempt-returns : attempt-lts.Need-returns (attempt-claims t) (attempt-at t) attempt.Post
+  attempt-returns c =
+      let s = c .before .before .before .before .before .args in
       let from : State → Answer = λ q. settle (s .budget) (s .calls) (callFrom (s .k) (s .cells .now) (s .left - 1) q) in
-      let after = ap from (c .before .before .flip2 .ensures) in
-      (c .call .ensures ∙ after ∙ sym (given d), c .before .before .before .flip .ensures .size)
+      (c .call .ensures ∙ ap from (c .before .before .flip2 .ensures), c .before .before .before .flip .ensures .size)
 
 pub +attempt+call+literals-spec : {M : Type 1} → statement M
 +attempt+call+literals-spec =
     close μ-attempt μ-call μ-literals
     (λ t.
     attempt-lts.spec (attempt-claims t) (attempt-at t) attempt.Post
-    (attempt-tries-requires t)
-    (attempt-returns t)
     (attempt-flip-requires t)
     (attempt-flip-requires-2 t)
     (attempt-sub-call t)
     (attempt-call-requires t)
-    (attempt-returns-2 t))
+    (attempt-returns t))
     (λ t.
     call-lts.spec (call-claims t) (call-at t) call.Post
     (call-exhausted-requires t)
@@ -366,6 +360,7 @@ pub +attempt+call+literals-spec : {M : Type 1} → statement M
     literals-lts.spec (literals-claims t) (literals-at t) literals.Post Inv-loop μ-loop
     (literals-length-at-requires t)
     (literals-loop-holds t)
+    (literals-tries-requires t)
     (literals-literal-at-requires t)
     (literals-attempt-requires t)
     (literals-enum-known-tried t)

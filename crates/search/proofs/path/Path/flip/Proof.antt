@@ -5,8 +5,8 @@ use borrow.Author.Needs.{needs}
 use Rattle.formula.specs.Formula.{bitOf, literalOf}
 use Rattle.search.specs.Ball.{State, flip}
 use Rattle.search.specs.Machine.{stateIn}
-use Rattle.search.proofs.ball.Path.flip.Statement.{statement}
-use Rattle.search.proofs.ball.Path.flip.Tie as tie
+use Rattle.search.proofs.path.Path.flip.Statement.{statement}
+use Rattle.search.proofs.path.Path.flip.Tie as tie
 
 sub-toggled : tie.Need-sub-toggled
 sub-toggled c = search needs

@@ -3,8 +3,8 @@ use Rattle.formula.specs.Formula.{bitOf, literalOf}
 use Rattle.search.specs.Ball.{isFlipped}
 use Rattle.search.specs.Machine.{stateIn}
 use borrow.Author.Needs.{needs}
-use Rattle.search.proofs.ball.Path.has_flipped.Statement.{statement}
-use Rattle.search.proofs.ball.Path.has_flipped.Tie as tie
+use Rattle.search.proofs.path.Path.has_flipped.Statement.{statement}
+use Rattle.search.proofs.path.Path.has_flipped.Tie as tie
 
 sub-test : tie.Need-sub-test
 sub-test c = search needs

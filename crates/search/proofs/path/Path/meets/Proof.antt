@@ -1,8 +1,8 @@
 -- `Path::meets` meets its contract: it is the assignment that meets a literal.
 use Rattle.search.specs.Machine.{stateIn}
 use borrow.Author.Needs.{needs}
-use Rattle.search.proofs.ball.Path.meets.Statement.{statement}
-use Rattle.search.proofs.ball.Path.meets.Tie as tie
+use Rattle.search.proofs.path.Path.meets.Statement.{statement}
+use Rattle.search.proofs.path.Path.meets.Tie as tie
 
 meets-requires : tie.Need-meets-requires
 meets-requires c κs = search needs
