@@ -1,4 +1,5 @@
--- The settled examples of paper 01, the one of paper 4 of 02 and one over four words, proved from the definitions by one joint statement about one table.
+-- The settled examples of paper 01, the one of paper 4 of 02 and one over four words, proved from the definitions by one joint
+-- statement about one table.
 use mathlib.Core.Path.{_≡_, refl}
 use mathlib.Core.Bool.{true, false}
 use mathlib.Core.List.{List, [], _∷_, _++_, map}

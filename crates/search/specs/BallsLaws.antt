@@ -1,16 +1,15 @@
 -- The laws of the loop over the balls: the planes move from centre to centre, one toggle after the other.
-use mathlib.Core.Path.{_≡_, refl, sym, ap, _∙_, subst}
+use mathlib.Core.Path.{_≡_, refl, sym, _∙_, subst}
 use mathlib.Core.Logic.{⊎-elim}
-use mathlib.Core.Bool.{Bool, true, false, not, Bool·beq}
+use mathlib.Core.Bool.{Bool, not}
 use mathlib.Core.List.{List}
-use Prim.Native.Nat.{ℕ, _+_, _-_, _/_, _^_, _≤_, _<_}
+use Prim.Native.Nat.{ℕ, _+_, _/_, _^_, _≤_, _<_}
 use native.Mathlib.Nat.{lt-of-not-le, eq-or-lt-of-le, div-lt-iff-lt-mul, le-div-iff-mul-le, one-mul}
 use native.Mathlib.Omega.{arith}
 use lib.ListN.{length}
 use lib.Pow.{pow-pos}
-use Rattle.words.specs.ListLaws.{beq-true, beq-false}
 use Rattle.words.specs.Bits.{bit, toggle, width}
-use Rattle.words.specs.BitLaws.{bit-toggle-same, bit-toggle-other, toggle-lt, bits-ext}
+use Rattle.words.specs.BitLaws.{not-same, bit-toggle-same, bit-toggle-other, bits-ext}
 use Rattle.words.specs.Machine.{bitsOf, FirstDifference}
 use Rattle.formula.specs.Counts.{signWord}
 use Rattle.formula.specs.SignLaws.{sign-bit, sign-unmet}
@@ -23,7 +22,7 @@ use Rattle.planes.specs.Machine.{planeCells}
 use Rattle.search.specs.declared.path.Path.{Path}
 use Rattle.search.specs.Run.{Block, Search, ball, centreAt, centreCount, summedRadius}
 use Rattle.search.specs.CallLaws.{ball-some}
-use Rattle.search.specs.Machine.{stateIn, centred, callFrom, Shows, Toggles, Moves, Matched, searchIn, ballsFrom, Before}
+use Rattle.search.specs.Machine.{stateIn, centred, callFrom, Shows, Toggles, Moves, searchIn, ballsFrom, Before}
 
 -- ---- one bit
 
@@ -46,31 +45,18 @@ pub moves-on : (k : ℕ) (occ planes : List ℕ) (m m′ : ℕ) (planes′ : Lis
 moves-on k occ planes m m′ planes′ m″ planes″ a b =
     record { size = b .size; shows = λ cells r h. b .shows cells r (a .shows cells r h) }
 
--- by a test of the two bits
-module _ (v m w : ℕ) (x y : Bool) (p : x ≡ bit m v) (q : y ≡ bit w v) where
-  pub matched-stays : Bool·beq x y ≡ true → Matched v m w m
-  matched-stays e = record { same = sym p ∙ beq-true x y e ∙ q; other = λ u h. refl; below = λ n l h. h }
-
-  pub matched-toggles : Bool·beq x y ≡ false → Matched v m w (toggle m v)
-  matched-toggles e =
-      record {
-        same = bit-toggle-same m v ∙ ap not (sym p) ∙ beq-false x y e ∙ q;
-        other = λ u d. bit-toggle-other m v u d;
-        below = λ n l h. toggle-lt n m v h l;
-      }
-
 -- ---- all bits
 
 module _ (w m v : ℕ) (d : FirstDifference width m w v) where
-  -- once a bit is matched, the first difference lies further on
-  pub difference-later : (m′ v′ : ℕ) → v < width → Matched v m w m′ → FirstDifference width m′ w v′ → v < v′
-  difference-later m′ v′ l h d′ = lt-of-not-le (λ p. d′ .here (omega arith) (same v′ p))
+  -- once its bit is toggled, the first difference lies further on
+  pub difference-later : (v′ : ℕ) → v < width → FirstDifference width (toggle m v) w v′ → v < v′
+  difference-later v′ l d′ = lt-of-not-le (λ p. d′ .here (omega arith) (same v′ p))
     where
-      same : (u : ℕ) → u ≤ v → bit m′ u ≡ bit w u
+      same : (u : ℕ) → u ≤ v → bit (toggle m v) u ≡ bit w u
       same u p =
           ⊎-elim
-          (λ e. ap (bit m′) e ∙ h .same ∙ ap (bit w) (sym e))
-          (λ p′. h .other u (λ e. omega arith) ∙ d .before u p′)
+          (λ e. rw e (bit-toggle-same m v ∙ sym (not-same _ _ (d .here l))))
+          (λ p′. bit-toggle-other m v u (λ e. omega arith) ∙ d .before u p′)
           (eq-or-lt-of-le p)
 
   -- where it is past n, two numbers of n bits are the same

@@ -228,12 +228,6 @@ pub record Moves (k : ℕ) (occ : List ℕ) (m : ℕ) (planes : List ℕ) (m′ 
   pub size : length planes′ ≡ planeCells
   pub shows : (cells : List ℕ) → Ready k cells occ → Shows k cells (centred m) planes → Shows k cells (centred m′) planes′
 
--- m′ has bit v of w, and its other bits are those of m
-pub record Matched (v m w m′ : ℕ) : Type 0 where
-  pub same : bit m′ v ≡ bit w v
-  pub other : (u : ℕ) → (v ≡ u → ⊥) → bit m′ u ≡ bit m u
-  pub below : (n : ℕ) → v < n → m < 2 ^ n → m′ < 2 ^ n
-
 -- the search over the clauses in the table and the blocks given
 unfoldable pub searchIn : ℕ → List ℕ → List Block → Search
 searchIn k cells bs = record { clauses = held k cells; rule = rule (held k cells); blocks = bs }

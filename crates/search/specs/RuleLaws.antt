@@ -13,7 +13,7 @@ use borrow.Author.Tests.{eqb-true, eqb-false, leb-true, leb-false, not-true}
 use Rattle.words.specs.Lists.{In, some, every, first}
 use Rattle.words.specs.ListLaws.{every-in, some-in, keep-in, in-keep, length-keep, first-has, and-right, refute}
 use Rattle.words.specs.Bits.{bit, toggle, distance}
-use Rattle.words.specs.BitLaws.{bit-toggle-same, bit-toggle-other, toggle-lt, distance-toggle, distance-zero}
+use Rattle.words.specs.BitLaws.{not-same, bit-toggle-same, bit-toggle-other, toggle-lt, distance-toggle, distance-zero}
 use Rattle.formula.specs.Formula.{Literal, Clause, bitOf, met, someMet, allTrue}
 use Rattle.tree.specs.Explore.{found, calls, powers}
 use Rattle.search.specs.Ball.{State, isTrue, isDead, isFlipped, flip, Rule, isTried, tried, branch, select, skip, rule, ballTree, ballSearch}
@@ -54,12 +54,6 @@ differs : (m w : ℕ) (l : Literal) → met m l ≡ false → met w l ≡ true �
 unfolding met
 differs m w l p q e = false≢true (sym p ∙ ap (λ (b : Bool). Bool·beq b (l .positive)) e ∙ q)
 
-other-bit : (a b : Bool) → (a ≡ b → ⊥) → b ≡ not a
-other-bit true true h = absurd (h refl)
-other-bit true false h = refl
-other-bit false true h = refl
-other-bit false false h = absurd (h refl)
-
 -- flipping a variable in which the assignment differs from w keeps the agreement
 agrees-flip : (s : State) (l : Literal) (w : ℕ) → (bit (s .assignment) (bitOf l) ≡ bit w (bitOf l) → ⊥) →
     Agrees s w → Agrees (flip s l) w
@@ -69,7 +63,7 @@ agrees-flip s l w d h v e = go (eqb (bitOf l) v) refl
     go : (b : Bool) → eqb (bitOf l) v ≡ b → bit w v ≡ bit (toggle (s .assignment) (bitOf l)) v
     go true q =
         let at : ℕ → Type 0 = λ u. bit w u ≡ bit (toggle (s .assignment) (bitOf l)) u in
-        subst at (eqb-true (bitOf l) v q) (other-bit _ _ d ∙ sym (bit-toggle-same (s .assignment) (bitOf l)))
+        subst at (eqb-true (bitOf l) v q) (not-same _ _ d ∙ sym (bit-toggle-same (s .assignment) (bitOf l)))
     go false q =
         let other : bitOf l ≡ v → ⊥ = eqb-false (bitOf l) v q in
         h v (sym (bit-toggle-other (s .flipped) (bitOf l) v other) ∙ e)

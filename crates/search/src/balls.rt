@@ -11,31 +11,25 @@ use words::Assignment;
 ghost use mathlib.Core.Path.{_≡_};
 ghost use Prim.Native.Nat.{_^_, _≤_, _<_};
 ghost use lib.ListN.{length};
-ghost use Rattle.words.specs.Bits.{width};
+ghost use Rattle.words.specs.Bits.{toggle, width};
 ghost use Rattle.words.specs.Machine.{bitsOf};
 ghost use Rattle.tree.specs.Machine.{answerIn};
 ghost use Rattle.planes.specs.Machine.{laneCount, planeCells};
-ghost use Rattle.search.specs.Machine.{blocksIn, Moves, Matched, Prepared, searchIn, ballsFrom};
+ghost use Rattle.search.specs.Machine.{blocksIn, Moves, Prepared, searchIn, ballsFrom};
 
-// One bit: the planes of `at` become those of the answer, which has bit v of `to`.
-fn matched(
+// One bit: the planes of `at` become those of the answer, which is `at` with bit v toggled.
+fn toggle_bit(
     occ: &[u64; OCCURRENCES],
     k: usize,
     planes: &mut [u64; PLANES],
     at: Assignment,
-    to: Assignment,
     v: u32,
 ) -> Assignment
     requires { ⌜ (k ≤ laneCount) × (v < width) × (length (now planes) ≡ planeCells) ⌝ }
     ensures { λ r. ⌜ Moves k (now (occ .entry)) (bitsOf at) (now (planes .entry)) (bitsOf r) (now (planes .exit)) ⌝ }
-    ensures { λ r. ⌜ Matched v (bitsOf at) (bitsOf to) (bitsOf r) ⌝ }
+    ensures { λ r. ⌜ bitsOf r ≡ toggle (bitsOf at) v ⌝ }
 {
-    let have = at.test(v);
-    let want = to.test(v);
-    if have == want {
-        return at;
-    }
-    let literal = formula::literal_word(!have, v);
+    let literal = formula::literal_word(!at.test(v), v);
     let before = *planes;
     counts::toggle(occ, k, literal, &before, planes);
     at.toggled(v)
@@ -58,7 +52,7 @@ fn recentre(
     let mut at = from;
     let mut v = at.first_difference(to);
     while v < n {
-        at = matched(occ, k, planes, at, to, v);
+        at = toggle_bit(occ, k, planes, at, v);
         v = at.first_difference(to);
     }
 }

@@ -129,6 +129,13 @@ unfolding xor
 xor-true true = refl
 xor-true false = refl
 
+-- two truth values that are not the same are opposite
+pub not-same : (a b : Bool) → (a ≡ b → ⊥) → b ≡ not a
+not-same true true h = absurd (h refl)
+not-same true false h = refl
+not-same false true h = refl
+not-same false false h = absurd (h refl)
+
 -- Toggling changes that bit,
 pub bit-toggle-same : (m v : ℕ) → bit (toggle m v) v ≡ not (bit m v)
 unfolding toggle

@@ -1,7 +1,7 @@
 -- The laws of tests over lists: what each test says of the members, and what it comes to element by element.
 use mathlib.Core.Path.{_≡_, refl, sym, ap, _∙_}
 use mathlib.Core.Logic.{_⊎_, inl, inr, ⊎-elim}
-use mathlib.Core.Bool.{Bool, true, false, cond, not, _&&_, _||_, or-false, or-assoc, Bool·beq, false≢true, true≢false}
+use mathlib.Core.Bool.{Bool, true, false, cond, _&&_, _||_, or-false, or-assoc, Bool·beq, false≢true}
 use mathlib.Core.List.{List, [], _∷_, _++_, List·Memᴰ·head, List·Memᴰ·tail, List·Memᴰ·not-nil, List·Memᴰ·cases-cons}
 use Prim.Native.Nat.{ℕ, zero, suc, _+_, _≤_, _<_, zero-le, suc-le-suc}
 use native.Mathlib.Nat.{le-step, eq-or-lt-of-le, suc-add, add-zero, add-suc}
@@ -50,19 +50,12 @@ both-ways true b h g = sym (h refl)
 both-ways false true h g = g refl
 both-ways false false h g = refl
 
--- Two truth values are equal where the test says so,
+-- two truth values are equal where the test says so
 pub beq-true : (a b : Bool) → Bool·beq a b ≡ true → a ≡ b
 beq-true true true e = refl
 beq-true true false e = absurd (false≢true e)
 beq-true false true e = absurd (false≢true e)
 beq-true false false e = refl
-
--- and opposite where it does not.
-pub beq-false : (a b : Bool) → Bool·beq a b ≡ false → not a ≡ b
-beq-false true true e = absurd (true≢false e)
-beq-false true false e = refl
-beq-false false true e = refl
-beq-false false false e = absurd (true≢false e)
 
 -- ---- lists
 

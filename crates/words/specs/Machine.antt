@@ -18,10 +18,14 @@ bitsOf a = fromWords (wordsIn a)
 abbrev pub wordCount : ℕ
 wordCount = width / 32
 
+-- each of some words has 32 bits
+abbrev pub Small : List ℕ → Type 0
+Small ws = (i : ℕ) → getD ws i 0 < 2 ^ 32
+
 -- The words that are lent: so many, and each of 32 bits.
 pub record Lent (ws : List ℕ) : Type 0 where
   pub size : length ws ≡ wordCount
-  pub each : (i : ℕ) → getD ws i 0 < 2 ^ 32
+  pub each : Small ws
 
 -- r is the lowest bit in which a and b differ, or n where their lowest n bits are the same.
 pub record FirstDifference (n a b r : ℕ) : Type 0 where

@@ -1,5 +1,5 @@
--- Laws of the words of an assignment: their bits, one bit toggled, bits joined, and the words of a number. Each is one law over the
--- word's index.
+-- Laws of the words of an assignment: their bits, one bit toggled, where two differ, bits joined, and the words of a number. Each
+-- is one law over the word's index.
 use mathlib.Core.Path.{_≡_, refl, sym, ap, _∙_}
 use mathlib.Core.Bool.{Bool, true, false, true≢false}
 use mathlib.Core.List.{List, [], _∷_, map}
@@ -17,12 +17,8 @@ use borrow.Author.Tests.{ltb-true, ltb-false}
 use Rattle.words.specs.Lists.{span}
 use Rattle.words.specs.Bits.{bit, toggle, width, fromWords, wordAt}
 use Rattle.words.specs.BitLaws.{bit-suc, bit-low, bit-zero, bit-xor, xor-same, xor-equal, trailing-below, trailing-at}
-use Rattle.words.specs.Machine.{wordsIn, bitsOf, Lent, wordCount, FirstDifference}
+use Rattle.words.specs.Machine.{wordsIn, bitsOf, wordCount, Small, Lent, FirstDifference}
 use Rattle.words.specs.declared.Assignment.{Assignment}
-
--- each of some words has 32 bits
-abbrev pub Small : List ℕ → Type 0
-Small ws = (i : ℕ) → getD ws i 0 < 2 ^ 32
 
 -- an assignment has words for its whole width,
 pub words-count : (a : Assignment) → length (wordsIn a) ≡ wordCount

@@ -5,6 +5,7 @@ use Prim.Native.Nat.{ℕ, _-_, _^_, _<_}
 use native.Mathlib.Omega.{arith}
 use borrow.Author.Needs.{needs}
 use Rattle.words.specs.Bits.{width}
+use Rattle.words.specs.BitLaws.{toggle-lt}
 use Rattle.words.specs.Machine.{bitsOf, FirstDifference}
 use Rattle.search.specs.Machine.{Moves}
 use Rattle.search.specs.BallsLaws.{stays, moves-on, difference-later, difference-none}
@@ -24,8 +25,8 @@ first-difference-requires c κs = search needs
 loop-holds : tie.Need-loop-holds Inv-loop μ-loop
 loop-holds c = (stays _ _ _ _ (c .before .pre .0 .2), c .before .pre .1 .0, c .first-difference .ensures)
 
-matched-requires : tie.Need-matched-requires Inv-loop μ-loop
-matched-requires c κs =
+toggle-bit-requires : tie.Need-toggle-bit-requires Inv-loop μ-loop
+toggle-bit-requires c κs =
     let s = c .before .before .before .before in
     (s .pre .0 .0, omega arith, c .before .before .loop .inv .0 .size)
 
@@ -37,14 +38,15 @@ loop-less c =
     let turn = c .before .before .before .before in
     let inside = c .before .before .before .loop-test .taken in
     let small = turn .before .before .pre .0 .1 in
-    omega (arith, difference-later _ _ _ (turn .loop .inv .2) _ _ (omega arith) (c .before .matched .ensures .1) (c .first-difference2 .ensures))
+    let next = rw (c .before .toggle-bit .ensures .1) at (c .first-difference2 .ensures) in
+    omega (arith, difference-later _ _ _ (turn .loop .inv .2) _ (omega arith) next)
 
 loop-again : tie.Need-loop-again Inv-loop μ-loop
 loop-again c =
     let turn = c .before .before .before .before in
-    let matched = c .before .matched .ensures in (
-      moves-on _ _ _ _ _ _ _ _ (turn .loop .inv .0) (matched .0),
-      matched .1 .below _ (c .before .before .before .loop-test .taken) (turn .loop .inv .1),
+    let toggled = c .before .toggle-bit .ensures in (
+      moves-on _ _ _ _ _ _ _ _ (turn .loop .inv .0) (toggled .0),
+      rw (toggled .1) (toggle-lt _ _ _ (turn .loop .inv .1) (c .before .before .before .loop-test .taken)),
       c .first-difference2 .ensures,
     )
 
@@ -64,7 +66,7 @@ recentre-spec =
     μ-loop
     first-difference-requires
     loop-holds
-    matched-requires
+    toggle-bit-requires
     first-difference-requires-2
     loop-less
     loop-again

@@ -7,8 +7,8 @@ use lib.Bits.{bitXor}
 use lib.Count.{trailing-le}
 use lib.ListN.{getD}
 use Rattle.words.specs.declared.Assignment.{Assignment}
-use Rattle.words.specs.Machine.{wordsIn, bitsOf, wordCount}
-use Rattle.words.specs.WordLaws.{Small, words-small, Agree, agree-next, agree-ends}
+use Rattle.words.specs.Machine.{wordsIn, bitsOf, wordCount, Small}
+use Rattle.words.specs.WordLaws.{words-small, Agree, agree-next, agree-ends}
 use Rattle.words.proofs.Assignment.first_difference.Statement.{statement}
 use Rattle.words.proofs.Assignment.first_difference.Tie as tie
 
