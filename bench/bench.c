@@ -65,30 +65,60 @@ static void make_eights(uint32_t n, uint32_t step)
 
 static const char *verdicts[] = { "refused", "clear", "none", "spent" };
 
-static int agree(const struct reply *reply, int verdict, const struct plain_answer *answer)
+/* Who searches: the library, plain C as the steps are worded, or plain C with vectors. */
+enum { LIBRARY, WORDED, VECTORS };
+
+/* The seconds of one run. */
+static double timed(int who, const struct plain *plain, uint32_t b, uint32_t s, uint32_t budget, struct reply *reply)
 {
-    return reply->verdict == (uint32_t)verdict && reply->calls == answer->calls && memcmp(reply->marks, answer->marks, sizeof reply->marks) == 0;
+    struct plain_answer answer;
+    double at = seconds();
+    if (who == LIBRARY) {
+        *reply = run(b, s, budget, bytes, length);
+        return seconds() - at;
+    }
+    int verdict = plain->run(b, s, budget, bytes, length, who == VECTORS, &answer);
+    double took = seconds() - at;
+    *reply = (struct reply){ .verdict = verdict, .calls = answer.calls };
+    memcpy(reply->marks, answer.marks, sizeof reply->marks);
+    return took;
 }
 
-/* A run by the library, by plain C as the steps are worded, and by plain C with vectors. */
+static int agree(const struct reply *a, const struct reply *b)
+{
+    return a->verdict == b->verdict && a->calls == b->calls && memcmp(a->marks, b->marks, sizeof a->marks) == 0;
+}
+
+/* Plain C as the steps are worded takes up to 17 us a call, so that it runs once, and within 200,000 calls unless the radius is 0. Its seconds
+   a call are put in each; the answer is whether the library says the same within as many calls. */
+static int as_worded(const struct plain *plain, uint32_t b, uint32_t s, uint32_t budget, double *each)
+{
+    struct reply ours, theirs;
+    if (s && budget > 200000) budget = 200000;
+    timed(LIBRARY, plain, b, s, budget, &ours);
+    double empty = timed(WORDED, plain, b, s, 0, &theirs), took = timed(WORDED, plain, b, s, budget, &theirs);
+    *each = (took - empty) / theirs.calls;
+    return agree(&ours, &theirs);
+}
+
+/* A search by the library and by plain C, in turn. Its seconds are the least of three runs, less the least of three without a call, which read
+   the sheet and make the codes. */
 static int search(const struct plain *plain, const char *what, uint32_t b, uint32_t s, uint32_t budget)
 {
-    double best[3] = { 1e9, 1e9, 1e9 };
-    struct reply reply = { 0 };
-    int same = 1;
-    for (int i = 0; i < 9; i++) {
-        struct plain_answer answer;
-        int verdict = 0;
-        double at = seconds();
-        if (i % 3 == 0) reply = run(b, s, budget, bytes, length);
-        else verdict = plain->run(b, s, budget, bytes, length, i % 3 == 2, &answer);
-        double took = seconds() - at;
-        if (took < best[i % 3]) best[i % 3] = took;
-        if (i % 3) same &= agree(&reply, verdict, &answer);
+    double best[] = { 1e9, 1e9, 1e9 }, empty[] = { 1e9, 1e9, 1e9 }, worded;
+    struct reply replies[3];
+    for (int i = 0; i < 6; i++) {
+        int who = i % 2 ? VECTORS : LIBRARY;
+        double nothing = timed(who, plain, b, s, 0, &replies[who]), took = timed(who, plain, b, s, budget, &replies[who]);
+        if (nothing < empty[who]) empty[who] = nothing;
+        if (took < best[who]) best[who] = took;
     }
-    printf("%-44s %-6s %10u calls  %7.3f s  %5.1f million calls/s  plain %7.3f s  ratio %.2f  vectors %7.3f s  ratio %.2f%s\n", what,
-           verdicts[reply.verdict], reply.calls, best[0], reply.calls / best[0] / 1e6, best[1], best[0] / best[1], best[2],
-           best[0] / best[2], same ? "" : "  DIFFERENT ANSWERS");
+    int same = agree(&replies[LIBRARY], &replies[VECTORS]) & as_worded(plain, b, s, budget, &worded);
+    uint32_t calls = replies[LIBRARY].calls;
+    double ours = best[LIBRARY] - empty[LIBRARY], theirs = best[VECTORS] - empty[VECTORS];
+    printf("%-44s %-6s %10u calls  %7.3f s  %6.1f ns a call  plain %7.1f ns  ratio %6.3f  vectors %7.3f s  %6.1f ns  ratio %.2f%s\n", what,
+           verdicts[replies[LIBRARY].verdict], calls, ours, ours / calls * 1e9, worded * 1e9, ours / calls / worded, theirs,
+           theirs / calls * 1e9, ours / theirs, same ? "" : "  DIFFERENT ANSWERS");
     return same;
 }
 
@@ -178,17 +208,30 @@ static int volumes(void)
     return ours == theirs;
 }
 
+/* A sheet whose clauses do not depend on the sheets made before it. */
+static void make_apart(uint32_t n, uint32_t count, uint32_t c)
+{
+    uint64_t kept = state;
+    state = 88172645463325252ull;
+    make(n, count, c);
+    state = kept;
+}
+
 static int rows_32(void)
 {
     const struct plain *narrow = &plain32_operations;
     make(32, 160, 3);
     int ok = search(narrow, "n 32, 160 clauses of 3, plan 11, 3", 11, 3, 4294967295u);
+    ok &= search(narrow, "n 32, 160 clauses of 3, plan 11, 2", 11, 2, 4294967295u);
     make(32, 700, 5);
     ok &= search(narrow, "n 32, 700 clauses of 5, plan 11, 2", 11, 2, 20000000);
     make(32, 1024, 3);
     ok &= search(narrow, "n 32, 1,024 clauses of 3, plan 11, 3", 11, 3, 20000000);
+    ok &= search(narrow, "n 32, 1,024 clauses of 3, plan 11, 2", 11, 2, 20000000);
     make(32, 160, 3);
     ok &= search(narrow, "n 32, 160 clauses of 3, plan 8, 0", 8, 0, 20000000);
+    make_apart(32, 360, 4);
+    ok &= search(narrow, "n 32, 360 clauses of 4, plan 11, 3", 11, 3, 10000000);
     make_eights(32, 1);
     ok &= search(narrow, "n 32, 1,024 clauses of 8, plan 8, 2", 8, 2, 5000000);
     make(32, 1024, 3);
@@ -196,6 +239,23 @@ static int rows_32(void)
     make(32, 1024, 8);
     ok &= toggling(narrow, "toggle a variable, 1,024 clauses of 8", 32, 1024);
     ok &= reading(narrow, "read a sheet of 36,876 bytes, ready to search");
+    return ok;
+}
+
+/* Sheets of 64 variables, which plain C takes with masks of 128 bits. */
+static int rows_64(void)
+{
+    const struct plain *wide = &plain128_operations;
+    uint64_t kept = state;
+    make_apart(64, 320, 3);
+    int ok = search(wide, "n 64, 320 clauses of 3, plan 11, 3", 11, 3, 5000000);
+    make_apart(64, 660, 4);
+    ok &= search(wide, "n 64, 660 clauses of 4, plan 11, 3", 11, 3, 5000000);
+    make_apart(64, 1024, 5);
+    ok &= search(wide, "n 64, 1,024 clauses of 5, plan 11, 3", 11, 3, 5000000);
+    make_eights(64, 8);
+    ok &= search(wide, "n 64, 1,024 clauses of 8, plan 8, 2", 8, 2, 5000000);
+    state = kept;
     return ok;
 }
 
@@ -207,12 +267,16 @@ static int rows_128(void)
     int ok = search(wide, "n 128, 550 clauses of 3, plan 11, 3", 11, 3, 5000000);
     ok &= search(wide, "n 128, 550 clauses of 3, plan 12, 12", 12, 12, 5000000);
     ok &= search(wide, "n 128, 550 clauses of 3, plan 8, 0", 8, 0, 2000000);
+    make_apart(128, 1024, 4);
+    ok &= search(wide, "n 128, 1,024 clauses of 4, plan 11, 3", 11, 3, 5000000);
     make(128, 1024, 5);
     ok &= search(wide, "n 128, 1,024 clauses of 5, plan 11, 3", 11, 3, 20000000);
+    ok &= search(wide, "n 128, 1,024 clauses of 5, plan 11, 2", 11, 2, 5000000);
     make_eights(128, 16);
     ok &= search(wide, "n 128, 1,024 clauses of 8, plan 8, 2", 8, 2, 3000000);
     make(128, 1024, 2);
     ok &= search(wide, "n 128, 1,024 clauses of 2, plan 12, 11", 12, 11, 20000000);
+    ok &= search(wide, "n 128, 1,024 clauses of 2, plan 12, 9", 12, 9, 20000000);
     make(128, 1024, 8);
     ok &= toggling(wide, "n 128, toggle a variable, 1,024 clauses of 8", 128, 1024);
     ok &= reading(wide, "n 128, read a sheet of 36,876 bytes");
@@ -224,6 +288,7 @@ int main(void)
     int ok = codes();
     ok &= volumes();
     ok &= rows_32();
+    ok &= rows_64();
     ok &= rows_128();
     return !ok;
 }

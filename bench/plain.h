@@ -1,6 +1,8 @@
-/* A plain C implementation of paper 01 and of papers 2, 4 and 5 of 02, as one would write it without proofs: masks per clause, the first
-   false clause and the dead ones by a scan. It is the baseline of bench/run and shares no code with the crates. What depends on the masks'
-   width is in plain_masks.h, which is taken twice: for 32 variables, as before paper 5, and for 128. */
+/* A plain C implementation of paper 01 and of papers 2, 4, 5 and 6 of 02, as one would write it without proofs. It is the baseline of bench/run
+   and shares no code with the crates. The search has two forms: as the steps are worded, with masks per clause, in plain_masks.h; and with a
+   byte of counts per clause, 16 at a time, in plain_counts.h (vectors). What depends on the masks' width is taken twice: for 32 variables, as
+   before paper 5, and for 128. */
+#include <emmintrin.h>
 #include <stdint.h>
 #include <string.h>
 

@@ -5,16 +5,15 @@ struct PLAIN(sheet) {
     MASK positive[1024], negative[1024];
     uint8_t length[1024];
     uint8_t bit[1024][8];
-#if BITS > 32
-    uint32_t groups[256][8][4];
-#endif
+    _Alignas(16) int8_t change[BITS][2][1024];
 };
 
 struct PLAIN(search) {
     const struct PLAIN(sheet) *sheet;
     uint64_t calls, budget;
-    MASK found;
+    MASK found, centre;
     int vectors;
+    _Alignas(16) int8_t counts[1024];
 };
 
 /* 0 where the sheet is accepted, else the refusal's number. */
@@ -67,64 +66,64 @@ static int PLAIN(dead)(const struct PLAIN(sheet) *sheet, uint32_t i, MASK marks,
     return 0;
 }
 
-#if BITS == 32
-static void PLAIN(group)(struct PLAIN(sheet) *sheet) { (void)sheet; }
-
-/* The same for all clauses, with masks made once and no early end, so that the compiler takes four clauses at a time. */
-static int PLAIN(dead_vectors)(const struct PLAIN(sheet) *sheet, uint32_t first, uint32_t marks, uint32_t flipped)
+/* The literals of a false clause that have a lone opposite: the opposite is the only unflipped literal of a clause, and none of that clause's
+   flipped literals is met. */
+static MASK PLAIN(opposed)(const struct PLAIN(sheet) *sheet, uint32_t i, MASK marks, MASK flipped)
 {
-    uint32_t pay = marks | ~flipped, hold = ~marks | ~flipped, dead = 0;
-    (void)first; /* as before paper 5 */
-    for (uint32_t i = 0; i < sheet->count; i++) dead |= !((pay & sheet->positive[i]) | (hold & sheet->negative[i]));
-    return dead;
-}
-#else
-/* Groups of four clauses: a row of four for each word of their masks, first the positive ones. A place without a clause is never dead. */
-static void PLAIN(group)(struct PLAIN(sheet) *sheet)
-{
-    memset(sheet->groups, 0xff, sizeof sheet->groups);
-    for (uint32_t i = 0; i < sheet->count; i++)
-        for (int k = 0; k < 4; k++) {
-            sheet->groups[i / 4][k][i % 4] = sheet->positive[i] >> 32 * k;
-            sheet->groups[i / 4][4 + k][i % 4] = sheet->negative[i] >> 32 * k;
+    MASK opposed = 0;
+    for (uint32_t j = 0; j < sheet->length[i]; j++) {
+        MASK mask = (MASK)1 << sheet->bit[i][j];
+        if (flipped & mask) continue;
+        const MASK *opposite = sheet->positive[i] & mask ? sheet->negative : sheet->positive;
+        for (uint32_t k = 0; k < sheet->count; k++) {
+            MASK positive = sheet->positive[k], negative = sheet->negative[k];
+            if (((positive | negative) & ~flipped) != mask || !(opposite[k] & mask)) continue;
+            if (!(((marks & positive) | (~marks & negative)) & flipped)) { opposed |= mask; break; }
         }
+    }
+    return opposed;
 }
 
-/* The same with masks made once and no early end, by groups, each of which the compiler takes at a time: the fastest form found. */
-static int PLAIN(dead_vectors)(const struct PLAIN(sheet) *sheet, uint32_t first, MASK marks, MASK flipped)
+static int PLAIN(two_at_most)(MASK x) { x &= x - 1; return !(x & (x - 1)); }
+
+/* The clause that is tried, as the step is worded: the first one that meets S or L, else the first false one, which is first. Under L alone
+   some of its literals are skipped. */
+static uint32_t PLAIN(select)(const struct PLAIN(sheet) *sheet, uint32_t first, MASK marks, MASK flipped, MASK *skipped)
 {
-    uint32_t masks[8], dead[4] = { 0 }, end = (sheet->count + 3) / 4;
-    for (int k = 0; k < 4; k++) masks[k] = (marks | ~flipped) >> 32 * k, masks[4 + k] = (~marks | ~flipped) >> 32 * k;
-    for (uint32_t i = first / 4; i < end; i++)
-        for (int j = 0; j < 4; j++) {
-            uint32_t live = 0;
-            for (int k = 0; k < 8; k++) live |= masks[k] & sheet->groups[i][k][j];
-            dead[j] |= !live;
-        }
-    return dead[0] | dead[1] | dead[2] | dead[3];
+    for (uint32_t i = first; i < sheet->count; i++) {
+        MASK positive = sheet->positive[i], negative = sheet->negative[i];
+        if ((marks & positive) | (~marks & negative)) continue;
+        if (PLAIN(two_at_most)((positive | negative) & ~flipped)) return i;
+        *skipped = PLAIN(opposed)(sheet, i, marks, flipped);
+        if (*skipped) return i;
+    }
+    return first;
 }
-#endif
 
 /* 1 found, 0 no, -1 spent */
 static int PLAIN(call)(struct PLAIN(search) *search, MASK marks, MASK flipped, uint32_t left)
 {
     const struct PLAIN(sheet) *sheet = search->sheet;
     uint32_t i, count = sheet->count;
+    MASK skipped = 0;
     if (search->calls == search->budget) return -1;
     search->calls++;
     for (i = 0; i < count; i++)
         if (!((marks & sheet->positive[i]) | (~marks & sheet->negative[i]))) break;
     if (i == count) { search->found = marks; return 1; }
     if (left == 0) return 0;
-    if (search->vectors ? PLAIN(dead_vectors)(sheet, i, marks, flipped) : PLAIN(dead)(sheet, i, marks, flipped)) return 0;
+    if (PLAIN(dead)(sheet, i, marks, flipped)) return 0;
+    i = PLAIN(select)(sheet, i, marks, flipped, &skipped);
     for (uint32_t j = 0; j < sheet->length[i]; j++) {
         MASK mask = (MASK)1 << sheet->bit[i][j];
-        if (flipped & mask) continue;
+        if ((flipped | skipped) & mask) continue;
         int seen = PLAIN(call)(search, marks ^ mask, flipped | mask, left - 1);
         if (seen) return seen;
     }
     return 0;
 }
+
+#include "plain_counts.h"
 
 /* Searches the balls in turn: 1 clear, 2 none, 3 spent. Their number may not fit any word, and is not made. */
 static int PLAIN(balls)(uint32_t b, uint32_t s, struct PLAIN(search) *search)
@@ -138,7 +137,7 @@ static int PLAIN(balls)(uint32_t b, uint32_t s, struct PLAIN(search) *search)
         MASK centre = 0;
         uint32_t i;
         for (i = 0; i < blocks; i++) centre |= (MASK)code[i == full][digit[i]] << (i * b);
-        int seen = PLAIN(call)(search, centre, 0, radius);
+        int seen = search->vectors ? PLAIN(ball)(search, centre, radius) : PLAIN(call)(search, centre, 0, radius);
         if (seen) return seen == 1 ? 1 : 3;
         for (i = 0; i < blocks; i++) {
             if (++digit[i] < words[i == full]) break;
@@ -160,7 +159,7 @@ static int PLAIN(run)(uint32_t b, uint32_t s, uint32_t budget, const uint8_t *by
     if (b < 1 || b > 12 || s > b) return -8;
     int refused = PLAIN(read)(bytes, length, &PLAIN(taken));
     if (refused) return -refused;
-    if (vectors) PLAIN(group)(&PLAIN(taken));
+    if (vectors) PLAIN(begin)(&PLAIN(taken), &search);
     int verdict = PLAIN(balls)(b, s, &search);
     answer->calls = search.calls;
     for (int k = 0; k < BITS / 32; k++) answer->marks[k] = search.found >> 32 * k;

@@ -1,7 +1,8 @@
-// An independent implementation of paper 01 and of papers 1, 2, 4 and 5 of 02, compared with the proved library on many inputs:
+// An independent implementation of paper 01 and of papers 1, 2, 4, 5 and 6 of 02, compared with the proved library on many inputs:
 // long and short, valid and damaged, with few variables and up to 128, and for paper 2 tallies of the sheet, of other sheets, and of
 // any numbers. It shares no code with the crates. It prints how many answers of each kind agreed, and every disagreement.
 
+use std::cell::LazyCell;
 use std::collections::{BTreeSet, HashMap};
 
 #[repr(C)]
@@ -227,7 +228,23 @@ fn is_true(term: &[(u32, bool)], marks: u128) -> bool {
 
 // No flip that is left on the path can make it true. An empty term has nothing to flip.
 fn is_dead(term: &[(u32, bool)], marks: u128, flipped: u128) -> bool {
-    !is_true(term, marks) && term.iter().all(|l| has(flipped, l.0))
+    term.iter().all(|l| has(flipped, l.0)) && !is_true(term, marks)
+}
+
+fn unflipped(term: &[(u32, bool)], flipped: u128) -> impl Iterator<Item = &(u32, bool)> {
+    term.iter().filter(move |l| !has(flipped, l.0))
+}
+
+// The only unflipped literal of a term none of whose flipped literals is met.
+fn alone(term: &[(u32, bool)], marks: u128, flipped: u128) -> Option<(u32, bool)> {
+    let mut rest = unflipped(term, flipped);
+    let first = rest.next()?;
+    let settled = || term.iter().any(|l| has(flipped, l.0) && met(l, marks));
+    if rest.next().is_some() || settled() {
+        None
+    } else {
+        Some(*first)
+    }
 }
 
 fn counts(sheet: &Result<Sheet, Refused>, asked: &Question) -> CountsReply {
@@ -262,6 +279,11 @@ fn sayings(term: &[(u32, bool)], asked: &Question, got: &CountsReply) -> [(bool,
         (asked.flipped == 0, both[0] + both[1] == term.len()),
         (!is_true(&gone, asked.marks), both == [ones.len(), zeros.len()]),
     ]
+}
+
+// Some assignment meets every term: all are tried.
+fn has_model(sheet: &Sheet) -> bool {
+    (0..1u128 << sheet.n).any(|marks| sheet.terms.iter().all(|t| is_true(t, marks)))
 }
 
 // Under the marks of a clear answer every term of the sheet has a literal that is met.
@@ -431,12 +453,20 @@ impl Codes {
 
 // ---- the search
 
-// Later notes that a call said no for a dead term while the first false term was not dead: step 3 of paper 01 would have gone on.
+// What papers 4 and 6 of 02 may have a part in. At the first, step 3 of paper 01 would have gone on; at the second, its step 4 would
+// have taken another term; at the third, it would have tried one literal more.
+const PARTS: [&str; 3] = [
+    "a dead term after the first false one",
+    "a term taken that is not the first false one",
+    "a literal not tried for its lone opposite",
+];
+
+// Parts notes which of them some call had.
 struct Search<'a> {
     sheet: &'a Sheet,
     calls: u64,
     budget: u64,
-    later: bool,
+    parts: [bool; 3],
 }
 
 enum Seen {
@@ -451,26 +481,38 @@ impl Search<'_> {
             return Seen::Spent;
         }
         self.calls += 1;
-        let Some(term) = self.sheet.terms.iter().find(|t| !is_true(t, marks)) else {
+        let Some(first) = self.sheet.terms.iter().position(|t| !is_true(t, marks)) else {
             return Seen::Found(marks);
         };
+        let rest = &self.sheet.terms[first..];
         if left == 0 {
             return Seen::No;
         }
-        if self.sheet.terms.iter().any(|t| is_dead(t, marks, flipped)) {
-            self.later |= !is_dead(term, marks, flipped);
+        if rest.iter().any(|t| is_dead(t, marks, flipped)) {
+            self.parts[0] |= !is_dead(&rest[0], marks, flipped);
             return Seen::No;
         }
-        for l in term {
-            if has(flipped, l.0) {
-                continue;
-            }
+        for l in self.tried(rest, marks, flipped) {
             match self.call(marks ^ only(l.0), flipped | only(l.0), left - 1) {
                 Seen::No => {}
                 other => return other,
             }
         }
         Seen::No
+    }
+
+    // The literals that step 4 tries, in order. The rest are the terms from the first false one on.
+    fn tried(&mut self, rest: &[Vec<(u32, bool)>], marks: u128, flipped: u128) -> Vec<(u32, bool)> {
+        let terms = &self.sheet.terms;
+        let lone = LazyCell::new(|| -> Vec<(u32, bool)> { terms.iter().filter_map(|t| alone(t, marks, flipped)).collect() });
+        let opposed = |l: &(u32, bool)| lone.contains(&(l.0, !l.1));
+        let short = |t: &[(u32, bool)]| unflipped(t, flipped).count() <= 2;
+        let loses = |t: &[(u32, bool)]| unflipped(t, flipped).any(opposed);
+        let taken = rest.iter().filter(|t| !is_true(t, marks)).find(|t| short(t) || loses(t)).unwrap_or(&rest[0]);
+        let whole = short(taken);
+        self.parts[1] |= *taken != rest[0];
+        self.parts[2] |= !whole && loses(taken);
+        unflipped(taken, flipped).filter(|l| whole || !opposed(l)).copied().collect()
     }
 }
 
@@ -506,11 +548,11 @@ fn advance(blocks: &[Block], digits: &mut [usize]) -> bool {
     false
 }
 
-// What a run went through: the variables of the sheet, whether paper 4 of 02 had a part in it, and the bits of all words tried.
+// What a run went through: the variables of the sheet, what papers 4 and 6 of 02 had a part in, and the bits of all words tried.
 #[derive(Default)]
 struct Notes {
     n: u32,
-    later: bool,
+    parts: [bool; 3],
     words: u128,
 }
 
@@ -527,7 +569,7 @@ fn run(codes: &mut Codes, plan: (u32, u32), budget: u32, bytes: &[u8]) -> (Reply
     let blocks = blocks_of(codes, plan, sheet.n);
     let radius = blocks.iter().map(|b| b.1).sum();
     let mut digits = vec![0usize; blocks.len()];
-    let mut search = Search { sheet: &sheet, calls: 0, budget: budget as u64, later: false };
+    let mut search = Search { sheet: &sheet, calls: 0, budget: budget as u64, parts: [false; 3] };
     let mut words = 0;
     let (verdict, marks, calls) = loop {
         let word = whole_word(&blocks, &digits);
@@ -540,7 +582,7 @@ fn run(codes: &mut Codes, plan: (u32, u32), budget: u32, bytes: &[u8]) -> (Reply
         }
     };
     let reply = Reply { verdict, batch: sheet.batch, marks: split(marks), calls, number: 0, place: 0 };
-    (reply, Notes { n: sheet.n, later: search.later, words })
+    (reply, Notes { n: sheet.n, parts: search.parts, words })
 }
 
 // ---- alike, and the operations on codes
@@ -760,6 +802,94 @@ const WORKED: [Worked; 64] = [
     ((5, 0), 3000, 128, &[&[128]], (3, [0; 4], 3000)),
 ];
 
+const LONG: [i32; 8] = [-1, -2, -3, -4, -5, -6, 7, 8];
+
+// Paper 6 of 02. Where the radius is the block length there is one ball, around 0.
+const CHOSEN: [Worked; 57] = [
+    // rule S: the clause of three is passed over for one of two, and that is tried whole; 16 calls without the rule
+    ((5, 5), 9, 5, &[&[1, 2, 3], &[4, 5], &[4, -5], &[-4, 5], &[-4, -5]], (2, [0; 4], 5)),
+    ((5, 5), 5, 5, &[&[1, 2, 3], &[4, 5], &[4, -5], &[-4, 5], &[-4, -5]], (2, [0; 4], 5)),
+    ((5, 5), 4, 5, &[&[1, 2, 3], &[4, 5], &[4, -5], &[-4, 5], &[-4, -5]], (3, [0; 4], 4)),
+    // for one of one: 7 calls without the rule
+    ((4, 4), 9, 4, &[&[1, 2, 3], &[4], &[-4]], (2, [0; 4], 2)),
+    // flipped variables do not count: of (-1 5 6) two are left, and both die
+    ((6, 6), 9, 6, &[&[1], &[2, 3, 4], &[-1, 5, 6], &[-1, -5], &[-1, -6]], (2, [0; 4], 4)),
+    ((11, 11), 9, 11, &[&[1], &[2], &[3], &[4], &[5], &[6], &[9, 10, 11], &LONG, &[-1, -7], &[-1, -8]], (2, [0; 4], 9)),
+    // of (-1 5 6 7) three are left: the first false one is taken, and then 5 has a lone opposite
+    ((8, 8), 9, 8, &[&[1], &[2, 3, 4, 8], &[-1, 5, 6, 7], &[-2, -5]], (1, [35, 0, 0, 0], 4)),
+    // of two short ones the first is taken, though the other would die at once
+    ((6, 6), 9, 6, &[&[1, 2, 3], &[4, 5], &[6], &[-6]], (2, [0; 4], 5)),
+    // it may be the fourth false one
+    ((10, 10), 9, 10, &[&[1, 2, 3], &[4, 5, 6], &[7, 8, 9], &[10], &[-10]], (2, [0; 4], 2)),
+    // a short one that is true is not taken
+    ((5, 5), 9, 5, &[&[-1, -2], &[3, 4, 5]], (1, [4, 0, 0, 0], 2)),
+    // rule L: a literal is not tried where a clause has nothing but its opposite, and the others are, in order
+    ((3, 3), 9, 3, &[&[1, 2, 3], &[-1]], (1, [2, 0, 0, 0], 2)),
+    ((3, 3), 2, 3, &[&[1, 2, 3], &[-1]], (1, [2, 0, 0, 0], 2)),
+    ((3, 3), 1, 3, &[&[1, 2, 3], &[-1]], (3, [0; 4], 1)),
+    ((3, 3), 9, 3, &[&[1, 2, 3], &[-1], &[-3]], (1, [2, 0, 0, 0], 2)),
+    ((3, 3), 9, 3, &[&[-2], &[1, 2, 3], &[-1]], (1, [4, 0, 0, 0], 2)),
+    ((4, 4), 9, 4, &[&[1, 2, 3], &[-3], &[-1, 4], &[-1, -4]], (1, [2, 0, 0, 0], 4)),
+    ((3, 3), 9, 3, &[&[1, 2, 3], &[-1], &[-1]], (1, [2, 0, 0, 0], 2)),
+    ((4, 4), 9, 4, &[&[1, 2, 3, 4], &[-1], &[-2]], (1, [4, 0, 0, 0], 2)),
+    // not so where it has nothing but the literal itself
+    ((3, 3), 9, 3, &[&[1, 2, 3], &[1]], (1, [1, 0, 0, 0], 2)),
+    // the last of eight literals has a lone opposite: its clause is taken, 1 is tried, and then 9 has one
+    ((11, 11), 9, 11, &[&[9, 10, 11], &[1, 2, 3, 4, 5, 6, 7, 8], &[-8], &[-9, -1]], (1, [513, 0, 0, 0], 3)),
+    // no literal is tried, and no call made
+    ((3, 3), 9, 3, &[&[1, 2, 3], &[-1], &[-2], &[-3]], (2, [0; 4], 1)),
+    ((3, 3), 1, 3, &[&[1, 2, 3], &[-1], &[-2], &[-3]], (2, [0; 4], 1)),
+    ((3, 3), 0, 3, &[&[1, 2, 3], &[-1], &[-2], &[-3]], (3, [0; 4], 0)),
+    ((6, 6), 9, 6, &[&[4, 5, 6], &[1, 2, 3], &[-1], &[-2], &[-3]], (2, [0; 4], 1)),
+    // nor in the first of two balls, around 0 and 7 or 0 and 1; around 1 two variables are left after a flip, and both are tried
+    ((3, 1), 9, 3, &[&[1, 2, 3], &[-1], &[-2], &[-3]], (2, [0; 4], 3)),
+    ((3, 1), 2, 3, &[&[1, 2, 3], &[-1], &[-2], &[-3]], (3, [0; 4], 2)),
+    ((3, 2), 9, 3, &[&[1, 2, 3], &[-1], &[-2], &[-3]], (2, [0; 4], 5)),
+    // nor in the second, around 7
+    ((3, 1), 9, 3, &[&[-1, -2, -3], &[1], &[2], &[3]], (2, [0; 4], 3)),
+    ((3, 1), 9, 3, &[&[-1, -2, -3], &[1], &[3]], (1, [5, 0, 0, 0], 4)),
+    // in sheet order: a clause by L before a short one, where S first would make 2 calls, and a short one before one by L, where L
+    // first would make 1
+    ((4, 4), 9, 4, &[&[1, 2, 3], &[4], &[-1], &[-4]], (2, [0; 4], 5)),
+    ((5, 5), 9, 5, &[&[4, 5], &[1, 2, 3], &[-1], &[-2], &[-3]], (2, [0; 4], 3)),
+    ((8, 8), 9, 8, &[&[6, 7, 8], &[4, 5], &[1, 2, 3], &[-1], &[-2], &[-3]], (2, [0; 4], 3)),
+    // 1 is lone with both signs
+    ((3, 3), 9, 3, &[&[1, 2, 3], &[1], &[-1]], (2, [0; 4], 5)),
+    // a clause that meets both is tried whole
+    ((2, 2), 9, 2, &[&[1, 2], &[-1]], (1, [2, 0, 0, 0], 3)),
+    ((5, 5), 9, 5, &[&[3, 4, 5], &[1, 2], &[-1], &[-2]], (2, [0; 4], 3)),
+    ((3, 3), 9, 3, &[&[1], &[-1, 2, 3], &[-2]], (1, [5, 0, 0, 0], 4)),
+    // the opposite is lone when the other literal is flipped and unmet, not when it is met
+    ((4, 4), 9, 4, &[&[1], &[2, 3, 4], &[-1, -2]], (1, [5, 0, 0, 0], 3)),
+    ((4, 4), 9, 4, &[&[1], &[2, 3, 4], &[1, -2]], (1, [3, 0, 0, 0], 3)),
+    // two others, both unmet, one of them met, and one of them unflipped
+    ((5, 5), 9, 5, &[&[1], &[2], &[3, 4, 5], &[-1, -2, -3]], (1, [11, 0, 0, 0], 4)),
+    ((5, 5), 9, 5, &[&[1], &[2], &[3, 4, 5], &[-1, 2, -3]], (1, [7, 0, 0, 0], 4)),
+    ((5, 5), 9, 5, &[&[1], &[2], &[3, 4, 5], &[1, -2, -3]], (1, [7, 0, 0, 0], 4)),
+    ((5, 5), 9, 5, &[&[1], &[3, 4, 5], &[-1, -2, -3]], (1, [5, 0, 0, 0], 3)),
+    // the opposite is not lone beside an unflipped literal, be it unmet or met
+    ((4, 4), 9, 4, &[&[1, 2, 3], &[-1, 4]], (1, [9, 0, 0, 0], 3)),
+    ((4, 4), 9, 4, &[&[1, 2, 3], &[-1, -4]], (1, [1, 0, 0, 0], 2)),
+    // a flipped literal does not make a clause one by L: -1 is flipped, and (1) has nothing else, but (5 6 7) stands first
+    ((7, 7), 9, 7, &[&[1], &[5, 6, 7], &[-1, 2, 3, 4], &[-5, -2]], (1, [21, 0, 0, 0], 4)),
+    // neither rule: the first false one
+    ((6, 6), 9, 6, &[&[1, 2, 3], &[4, 5, 6], &[-1, -4]], (1, [17, 0, 0, 0], 3)),
+    // a dead clause goes before both rules
+    ((4, 4), 9, 4, &[&[1], &[2, 3, 4], &[-2], &[-1]], (2, [0; 4], 2)),
+    ((5, 5), 9, 5, &[&[1], &[4, 5], &[-1, 2, 3], &[-1]], (2, [0; 4], 2)),
+    // with one flip left both rules hold: balls around 0 and 7, around 0, 7, 8 and 15, and around 0 and 1
+    ((3, 1), 9, 3, &[&[1, 2, 3], &[-1]], (1, [2, 0, 0, 0], 2)),
+    ((4, 1), 9, 4, &[&[1, 2, 3], &[4]], (1, [15, 0, 0, 0], 4)),
+    ((2, 1), 9, 2, &[&[1, 2], &[-1], &[-2]], (2, [0; 4], 5)),
+    // paper 5 of 02: variables at the same place of two words are two, and flips in three words leave -40 alone
+    ((1, 1), 9, 128, &[&[33, 1, 65], &[-33]], (1, [1, 0, 0, 0], 2)),
+    ((1, 1), 9, 128, &[&[1, 33, 65], &[-1]], (1, [0, 1, 0, 0], 2)),
+    ((1, 1), 9, 128, &[&[1, 65, 97], &[-33]], (1, [1, 0, 0, 0], 2)),
+    ((7, 7), 9, 128, &[&[128, 96, 64], &[-128], &[-96]], (1, [0, 1 << 31, 0, 0], 2)),
+    ((8, 8), 9, 128, &[&[1], &[64], &[127], &[40, 5, 90], &[-1, -64, -127, -40]], (1, [17, 1 << 31, 0, 1 << 30], 5)),
+    ((9, 9), 9, 128, &[&[33, 65, 97], &[1, 128], &[-1], &[-128]], (2, [0; 4], 3)),
+];
+
 // The library and the search above both give the reply that was worked out by hand.
 fn replies(codes: &mut Codes, plan: (u32, u32), budget: u32, bytes: &[u8], worked: (u32, [u32; 4], u32)) -> bool {
     let (verdict, marks, calls) = worked;
@@ -768,7 +898,8 @@ fn replies(codes: &mut Codes, plan: (u32, u32), budget: u32, bytes: &[u8], worke
 }
 
 fn counts_agree(codes: &mut Codes) -> bool {
-    WORKED.iter().all(|(plan, budget, n, clauses, worked)| replies(codes, *plan, *budget, &written(*n, clauses), *worked))
+    let mut agrees = |(plan, budget, n, clauses, worked): &Worked| replies(codes, *plan, *budget, &written(*n, clauses), *worked);
+    WORKED.iter().chain(&CHOSEN).all(&mut agrees)
 }
 
 // Both ends of each word.
@@ -777,17 +908,22 @@ const HELD: [i32; 8] = [-1, -32, -33, -64, -65, -96, -97, -128];
 const KEPT: [i32; 8] = [-2, -31, -34, -63, -66, -95, -98, -127];
 
 // Clauses of all lengths that stay true, since nothing flips their variables.
-fn kept(count: usize) -> impl Iterator<Item = &'static [i32]> {
+fn kept<'a>(count: usize) -> impl Iterator<Item = &'a [i32]> {
     (0..count).map(|i| &KEPT[..1 + i % 8])
 }
 
-// Clauses of one end each, one that is false until 48 or 80 is flipped, and one that holds what the first ones pay: it dies with the
-// last of their flips, which are in up to four words. Kept clauses stand before all, before the one that dies, and after it.
-fn dying(length: usize, kept_counts: [usize; 3]) -> Vec<u8> {
+// Kept clauses stand before all others, before the last of these, and after it.
+fn among(kept_counts: [usize; 3], clauses: &[&[i32]], last: &[i32]) -> Vec<u8> {
     let [before, between, after] = kept_counts.map(kept);
-    let false_clauses = ENDS[..length].chunks(1).chain([&[48, 80][..]]);
-    let clauses: Vec<&[i32]> = before.chain(false_clauses).chain(between).chain([&HELD[..length]]).chain(after).collect();
-    written(128, &clauses)
+    let all: Vec<&[i32]> = before.chain(clauses.iter().copied()).chain(between).chain([last]).chain(after).collect();
+    written(128, &all)
+}
+
+// Clauses of one end each, one that is false until 48 or 80 is flipped, and one that holds what the first ones pay: it dies with the
+// last of their flips, which are in up to four words.
+fn dying(length: usize, kept_counts: [usize; 3]) -> Vec<u8> {
+    let clauses: Vec<&[i32]> = ENDS[..length].chunks(1).chain([&[48, 80][..]]).collect();
+    among(kept_counts, &clauses, &HELD[..length])
 }
 
 // Wherever in a sheet of up to 1,024 clauses the first false one and the dead one stand, the call after the last flip says no. An
@@ -799,6 +935,47 @@ fn places_agree(codes: &mut Codes) -> bool {
         let k = round.min(room);
         let sheets = [[0, k, 0], [k, 0, 0], [0, k, room - k]].map(|kept_counts| dying(length, kept_counts));
         sheets.iter().all(|bytes| replies(codes, (1, 1), 99, bytes, (2, [0; 4], length as u32 + 1)))
+    })
+}
+
+// A clause of three, clauses of one end each, which are flipped first, and one that is then left with the opposite of 48 alone: in
+// the clause of three, passed over until then, 80 is tried. The second sheet has the clauses the other way round.
+fn lone_at(flips: usize, kept_counts: [usize; 3]) -> [Vec<u8>; 2] {
+    let units: Vec<&[i32]> = ENDS[..flips].chunks(1).collect();
+    let last = [&HELD[..flips], &[-48]].concat();
+    let clauses = [&[&[48, 80, 112][..]], &units[..]].concat();
+    let bytes = among(kept_counts, &clauses, &last);
+    let mut backward = read(&bytes).expect("a sheet");
+    backward.terms.reverse();
+    [bytes, write(&backward)]
+}
+
+// The clause of three is passed over, and after the flip for the last one the second is dead.
+fn short_at(kept_counts: [usize; 3]) -> Vec<u8> {
+    among(kept_counts, &[&[48, 80, 112], &[-1]], &[1])
+}
+
+// Wherever in a sheet of up to 1,024 clauses the one with the lone opposite stands, and the short one, it is seen.
+fn choices_agree(codes: &mut Codes) -> bool {
+    (0..=1030).all(|round: usize| {
+        let flips = round % 8;
+        let spots = |room: usize| {
+            let k = round.min(room);
+            [[0, k, 0], [k, 0, 0], [0, k, room - k]][round % 3]
+        };
+        let marks = ALONE[..flips].iter().fold(only(80), |marks, alone| marks | join(*alone));
+        let clear = (1, split(marks), flips as u32 + 2);
+        let mut says = |bytes: &[u8], worked| replies(codes, (1, 1), 99, bytes, worked);
+        let lone = lone_at(flips, spots(1022 - flips));
+        lone.iter().all(|bytes| says(bytes, clear)) && says(&short_at(spots(1021)), (2, [0; 4], 2))
+    })
+}
+
+// However many false clauses are passed over, the short one behind them is taken.
+fn passed_agree(codes: &mut Codes) -> bool {
+    [1, 2, 255, 256, 1022].iter().all(|k| {
+        let clauses = [vec![&[48, 80, 112][..]; *k], vec![&[1], &[-1]]].concat();
+        replies(codes, (1, 1), 99, &written(128, &clauses), (2, [0; 4], 2))
     })
 }
 
@@ -1252,6 +1429,21 @@ fn dense_sheet(r: &mut Random, n: u32, named: &[u32]) -> Sheet {
     Sheet { batch: r.next() as u32, n, terms }
 }
 
+// Terms of 2 or 3 to 5 literals and a few of one, about as many as leave one model: a term of length c takes one of 2^c assignments.
+fn mixed_sheet(r: &mut Random, n: u32, named: &[u32]) -> Sheet {
+    let few = named.len() as u64;
+    let longest = r.range(3, 5).min(few);
+    let shortest = r.range(2, 3).min(few);
+    let mut room = few * r.range(14, 28);
+    let mut terms = Vec::new();
+    while room > 0 {
+        let length = if r.below(8) == 0 { 1 } else { r.range(shortest, longest) };
+        terms.push(random_term(r, named, length));
+        room = room.saturating_sub(32 >> length);
+    }
+    Sheet { batch: r.next() as u32, n, terms }
+}
+
 // A sheet with one literal of each variable in a term of its own, and so with one model. The model is as far from one of the first
 // whole words as the radius allows, and mostly farther from those before it.
 fn forced_sheet(r: &mut Random, n: u32, blocks: &[Block]) -> Sheet {
@@ -1418,18 +1610,20 @@ fn random_family(r: &mut Random, bytes: &[u8]) -> [Input; 4] {
 // ---- the comparison
 
 // Where the sheet of a run comes from.
-const STREAMS: [&str; 4] = ["inputs", "dense sheets", "spread sheets", "forced sheets"];
+const STREAMS: [&str; 5] = ["inputs", "dense sheets", "spread sheets", "forced sheets", "mixed sheets"];
 
-// How many answers of each kind there were, how often each saying applied, and how many disagreements. Kinds, large and later are
-// numbers of each stream: all answers, those for more than 32 variables, and those with a dead term after the first false one. For
-// each of the four words of an assignment, tried counts the runs with a code word that has bits there, and paid such clear answers.
+// How many answers of each kind there were, how often each saying applied, and how many disagreements. Kinds, large and parts are
+// numbers of each stream: all answers, those for more than 32 variables, and the clear and none ones with each of the parts of
+// papers 4 and 6. For each of the four words of an assignment, tried counts the runs with a code word that has bits there, and paid
+// such clear answers. Trials are the clear and none answers that all assignments were tried for.
 #[derive(Default)]
 struct Totals {
-    kinds: [[u64; 4]; 4],
-    large: [[u64; 4]; 4],
-    later: [[u64; 4]; 4],
+    kinds: [[u64; 4]; 5],
+    large: [[u64; 4]; 5],
+    parts: [[u64; 3]; 5],
     tried: [u64; 4],
     paid: [u64; 4],
+    trials: [u64; 2],
     numbers: [u64; 10],
     pairs: [u64; 3],
     terms: [u64; 4],
@@ -1454,6 +1648,8 @@ impl Totals {
         self.check(sources_agree(), || "an example of the sources differs".into());
         self.check(counts_agree(codes), || "a fixed run differs".into());
         self.check(places_agree(codes), || "a run with a dead term at some place differs".into());
+        self.check(choices_agree(codes), || "a run with a short term or a lone opposite at some place differs".into());
+        self.check(passed_agree(codes), || "a run with many false terms passed over differs".into());
         self.check(repeats_agree(codes), || "a run with a repeated term differs".into());
         self.check(limits_agree(codes), || "the limit on the number of variables differs".into());
         self.check(variables_agree(), || "the reading of a variable differs".into());
@@ -1495,14 +1691,23 @@ impl Totals {
         self.compare(r, codes, 1, (plan, 3000), &bytes);
     }
 
-    // A dense sheet whose variables are spread over the words.
+    // With a large radius the search goes on until most terms are short, and many literals have lone opposites.
+    fn mixed(&mut self, r: &mut Random, codes: &mut Codes) {
+        let n = r.range(4, 9) as u32;
+        let b = r.range(3, n as u64) as u32;
+        let plan = (b, r.range(b as u64 / 2, b as u64) as u32);
+        let bytes = write(&mixed_sheet(r, n, &(1..=n).collect::<Vec<u32>>()));
+        self.compare(r, codes, 4, (plan, 10_000), &bytes);
+    }
+
+    // A dense sheet, or a mixed one, whose variables are spread over the words.
     fn spread(&mut self, r: &mut Random, codes: &mut Codes) {
         let n = large_n(r);
         let plan = few_balls(r, codes, n);
         let count = r.range(3, 10) as u32;
         let named = few_variables(r, n, count);
-        let bytes = write(&dense_sheet(r, n, &named));
-        self.compare(r, codes, 2, (plan, 10_000), &bytes);
+        let sheet = if r.below(2) == 0 { dense_sheet(r, n, &named) } else { mixed_sheet(r, n, &named) };
+        self.compare(r, codes, 2, (plan, 10_000), &write(&sheet));
     }
 
     // Blocks of many lengths lie across the ends of words, and whole words with bits there are tried before the model is found. It
@@ -1529,14 +1734,30 @@ impl Totals {
         self.check(got == expected, || {
             format!("plan {:?} budget {} sheet {:?}: expected {:?}, got {:?}", plan, budget, bytes, expected, got)
         });
+        self.trial(bytes, got.verdict);
         got
+    }
+
+    // Whatever terms are taken and literals tried, clear is said where there is a model and none where there is not.
+    fn trial(&mut self, bytes: &[u8], verdict: u32) {
+        if verdict != 1 && verdict != 2 {
+            return;
+        }
+        let kind = match read(bytes) {
+            Ok(sheet) if sheet.n <= 12 => 2 - has_model(&sheet) as u32,
+            _ => return,
+        };
+        self.trials[kind as usize - 1] += 1;
+        self.check(kind == verdict, || format!("verdict {} sheet {:?}: all assignments say {}", verdict, bytes, kind));
     }
 
     fn note(&mut self, stream: usize, reply: &Reply, notes: &Notes) {
         let verdict = reply.verdict as usize;
         self.kinds[stream][verdict] += 1;
         self.large[stream][verdict] += (notes.n > 32) as u64;
-        self.later[stream][verdict] += notes.later as u64;
+        if verdict == 1 || verdict == 2 {
+            (0..3).for_each(|i| self.parts[stream][i] += notes.parts[i] as u64);
+        }
         self.numbers[reply.number as usize] += 1;
         let tried = split(notes.words);
         for i in 0..4 {
@@ -1659,9 +1880,11 @@ impl Totals {
             let all = refused + clear + none + spent;
             println!("{} {}: refused {} clear {} none {} spent {}", all, name, refused, clear, none, spent);
             println!("    with n above 32: clear {} none {} spent {}", self.large[i][1], self.large[i][2], self.large[i][3]);
-            println!("    clear or none with a dead term after the first false one: {}", self.later[i][1] + self.later[i][2]);
+            let parts: Vec<String> = PARTS.iter().zip(self.parts[i]).map(|(part, count)| format!("{} {}", part, count)).collect();
+            println!("    clear or none with {}", parts.join(", "));
         }
         println!("with bits in words 1 to 4: runs whose code words have them {:?} clear answers {:?}", self.tried, self.paid);
+        println!("all assignments tried, n up to 12: clear {} none {}", self.trials[0], self.trials[1]);
         println!("refusals 1 to 8: {:?}", &numbers[1..9]);
         println!("pairs: refused {} alike {} different {}", pairs[0], pairs[1], pairs[2]);
         println!("terms: refused {} past the last {} false {} true {}", terms[0], terms[1], terms[2], terms[3]);
@@ -1699,6 +1922,7 @@ fn main() {
         }
         if flips.below(4) == 0 {
             totals.dense(&mut flips, &mut codes);
+            totals.mixed(&mut flips, &mut codes);
         }
         if spreads.below(5) == 0 {
             totals.spread(&mut spreads, &mut codes);

@@ -1,7 +1,8 @@
 #!/usr/bin/env python3
 """Tests of the built program `clearing`, byte by byte of what it reads and prints: every kind of line, every refusal that it
-can print with its place, the order of refusals, and variables in every word of an assignment. The lines are worked out by hand
-from paper 01 and papers 4 and 5 of 02. Then `tools/sheet solve` and `run.sh` over the same program."""
+can print with its place, the order of refusals, variables in every word of an assignment, and which clauses and literals are
+tried. The lines are worked out by hand from paper 01 and papers 4, 5 and 6 of 02. Then `tools/sheet solve` and `run.sh` over
+the same program."""
 import os
 import subprocess
 import sys
@@ -192,13 +193,16 @@ class FourWords(Lines):
 
     def test_one_clause_over_all_words(self):
         self.prints_for([8, 1, 9], sheet(128, ENDS), 'batch 5 clear calls 2 marks 1 0 0 0')
-        # a flip of any variable but 128 makes its own (-v) dead: 1 call, 7 that say no, and the one that finds
+        # each variable but 128 has a lone opposite: only 128 is tried, wherever it stands
         negative = [[-v] for v in ENDS]
-        self.prints_for([8, 1, 9], sheet(128, ENDS, *negative[:7]), 'batch 5 clear calls 9 marks ' + ALONE[128])
-        # from the end the first flip finds
-        self.prints_for([8, 1, 9], sheet(128, ENDS[::-1], *negative[:7]), 'batch 5 clear calls 2 marks ' + ALONE[128])
-        # one centre: 1 call and 8 that say no
-        self.prints_for([1, 1, 9], sheet(128, ENDS, *negative), 'batch 5 none calls 9 marks 0 0 0 0')
+        self.prints_for([8, 1, 2], sheet(128, ENDS, *negative[:7]), 'batch 5 clear calls 2 marks ' + ALONE[128])
+        self.prints_for([8, 1, 2], sheet(128, ENDS[::-1], *negative[:7]), 'batch 5 clear calls 2 marks ' + ALONE[128])
+        # all have one: nothing is tried
+        self.prints_for([1, 1, 1], sheet(128, ENDS, *negative), 'batch 5 none calls 1 marks 0 0 0 0')
+        # a short clause is tried whole: a flip of v makes (-v) dead, and 128 finds, or makes (-128) dead too
+        for v in ENDS[:7]:
+            self.prints_for([1, 1, 3], sheet(128, [v, 128], [-v]), 'batch 5 clear calls 3 marks ' + ALONE[128])
+            self.prints_for([1, 1, 3], sheet(128, [v, 128], [-v], [-128]), 'batch 5 none calls 3 marks 0 0 0 0')
 
     def test_none(self):
         for v in ALONE:
@@ -234,6 +238,105 @@ class FourWords(Lines):
         self.prints_for([11, 5, 124988], self.far_from_most(128),
                         'batch 5 clear calls 124988 marks 130086943 260173886 520347772 4261921016')
         self.prints_for([11, 5, 124987], self.far_from_most(128), 'batch 5 spent calls 124987 marks 0 0 0 0')
+
+
+class ShortAndLone(Lines):
+    """Paper 6 of 02. Under plan 1, 1 there is one centre, all marks 0, and every variable is within its radius."""
+
+    def comes_to(self, words, verdict, calls, marks='0 0 0 0', plan=(1, 1)):
+        """The line with just the calls needed, and spent with one less."""
+        self.prints_for([*plan, calls], words, 'batch 5 %s calls %d marks %s' % (verdict, calls, marks))
+        self.prints_for([*plan, calls - 1], words, 'batch 5 spent calls %d marks 0 0 0 0' % (calls - 1))
+
+    def test_short(self):
+        # (1 2 3) has three variables to flip; (4) has one, goes first, and its flip makes (-4) dead.
+        self.comes_to(sheet(4, [1, 2, 3], [4], [-4]), 'none', 2)
+        # two are short too: one dead call for each.
+        self.comes_to(sheet(5, [1, 2, 3], [4, 5], [-4], [-5]), 'none', 3)
+        # three are not: the first clause is taken, and 1 meets both; from the second it would be 5 and then 1, 3 calls
+        self.comes_to(sheet(6, [1, 2, 3, 4], [5, 1, 6]), 'clear', 2, '1 0 0 0')
+        # the short clause goes first even where that costs a call: 4, then 1.
+        self.comes_to(sheet(4, [1, 2, 3], [4, 1]), 'clear', 3, '9 0 0 0')
+        # short by what is not flipped, not by length: after 1 the third clause has 5 and 6 left, and goes before the second.
+        # It is tried whole, though 5 and 6 have lone opposites: two dead calls.
+        self.comes_to(sheet(6, [1], [2, 3, 4], [-1, 5, 6], [-5], [-6]), 'none', 4)
+        # a short clause is tried whole: 1 makes (-1) dead, 2 finds
+        self.comes_to(sheet(2, [1, 2], [-1]), 'clear', 3, '2 0 0 0')
+        self.comes_to(sheet(2, [1, 2], [-1], [-2]), 'none', 3)
+        # a true clause is never taken, however short: (-4) is left alone
+        self.comes_to(sheet(4, [1, 2, 3], [-4]), 'clear', 2, '1 0 0 0')
+
+    def test_lone(self):
+        # 1 has a lone opposite and is not tried.
+        self.comes_to(sheet(3, [1, 2, 3], [-1]), 'clear', 2, '2 0 0 0')
+        # nothing is left to try.
+        self.comes_to(sheet(3, [1, 2, 3], [-1], [-2], [-3]), 'none', 1)
+        # 1 is tried: it makes (-1 4) false, which is short, and 4 makes (-4) dead; 2 is not tried; 3 finds
+        self.comes_to(sheet(4, [1, 2, 3], [-2], [-1, 4], [-4]), 'clear', 4, '4 0 0 0')
+        # after 1 only -2 is left of (-1 -2), whose flipped literal is not met: 2 is not tried.
+        self.comes_to(sheet(4, [1], [2, 3, 4], [-1, -2]), 'clear', 3, '5 0 0 0')
+        # after 1 only -2 is left of (1 -2), but its flipped literal is met: of 2, 3 and 4 just 2 is tried
+        self.comes_to(sheet(4, [1], [2, 3, 4], [1, -2], [-3], [-4]), 'clear', 3, '3 0 0 0')
+        # -1 is not alone in (-1 4), nor in (-1 -4): 1 is tried, and is the only one; then 4 of (-1 4), or nothing
+        self.comes_to(sheet(4, [1, 2, 3], [-1, 4], [-2], [-3]), 'clear', 3, '9 0 0 0')
+        self.comes_to(sheet(4, [1, 2, 3], [-1, -4], [-2], [-3]), 'clear', 2, '1 0 0 0')
+        # after 1 the clause (1) has one literal met and none open, but its variable is flipped: that makes nothing of the third
+        # clause. The second is taken, and 2 meets both; from the third it would be 5 and then 2, 4 calls
+        self.comes_to(sheet(6, [1], [2, 3, 4], [-1, 5, 2, 6]), 'clear', 3, '3 0 0 0')
+
+    def test_long(self):
+        # seven of eight literals have lone opposites.
+        self.comes_to(sheet(9, [1, 2, 3, 4, 5, 6, 7, 8], [-1], [-2], [-3], [-4], [-5], [-6], [-7]), 'clear', 2, '128 0 0 0')
+        # after 1 to 6 only -7 is left of the last clause: 7 is not tried, 8 finds.
+        six = [[1], [2], [3], [4], [5], [6]]
+        self.comes_to(sheet(9, *six, [7, 8, 9], [-1, -2, -3, -4, -5, -6, -7]), 'clear', 8, '191 0 0 0')
+        # after 1 to 6 a clause of eight is short, and goes before (7 8 9): 8 is its first, and meets both
+        self.comes_to(sheet(9, *six, [7, 8, 9], [-1, -2, -3, -4, -5, -6, 8, 7]), 'clear', 8, '191 0 0 0')
+
+    def test_order(self):
+        # L before a later S: nothing to try in the first clause. The other way round each of 4 and 5 leads to such a call
+        self.comes_to(sheet(5, [1, 2, 3], [-1], [-2], [-3], [4, 5]), 'none', 1)
+        self.comes_to(sheet(5, [4, 5], [1, 2, 3], [-1], [-2], [-3]), 'none', 3)
+        # L behind a first false clause that is neither.
+        self.comes_to(sheet(6, [4, 5, 6], [1, 2, 3], [-1], [-2], [-3]), 'none', 1)
+        # neither: the first false clause, where 1 meets both; from the last it would be 4 and then 1, 3 calls
+        self.comes_to(sheet(5, [1, 2, 3], [4, 1, 5]), 'clear', 2, '1 0 0 0')
+
+    def test_one_flip_left(self):
+        # plan 3, 1 has the centres 0 and 7 with one flip each: 1 and 2 are not tried, 3 finds
+        self.comes_to(sheet(3, [1, 2, 3], [-1], [-2]), 'clear', 2, '4 0 0 0', (3, 1))
+        # from 0 nothing is tried; from 7 (-1) is short, and its flip is the last
+        self.comes_to(sheet(3, [1, 2, 3], [-1], [-2], [-3]), 'none', 3, plan=(3, 1))
+        # from 0 (1) is short, and its flip is the last; from 7 the opposites 1, 2 and 3 of the negative literals are alone
+        self.comes_to(sheet(3, [-1, -2, -3], [1], [2], [3]), 'none', 3, plan=(3, 1))
+        # radius 0: step 2 goes before the choice, and each of 8 centres is one call
+        self.comes_to(sheet(3, [1, 2, 3], [-1], [-2], [-3]), 'none', 8, plan=(3, 0))
+
+    def test_every_word(self):
+        # variables at the same place of the words, or at their ends: the opposite of one of them is alone, not of another
+        for u, v, w in ((1, 33, 65), (33, 65, 97), (97, 1, 33), (65, 97, 1), (32, 64, 96), (64, 96, 128), (128, 32, 64), (96, 128, 32)):
+            self.comes_to(sheet(128, [u, v, w], [-v], [-w]), 'clear', 2, ALONE[u])
+            self.comes_to(sheet(128, [v, u, w], [-v]), 'clear', 2, ALONE[u])
+            self.comes_to(sheet(128, [v, w, u], [-w], [-v]), 'clear', 2, ALONE[u])
+            self.comes_to(sheet(128, [u, v, w], [-u], [-v], [-w]), 'none', 1)
+            # u, v and w are long, 2 is short and is flipped for nothing
+            self.comes_to(sheet(128, [u, v, w], [2], [-2]), 'none', 2)
+        # after 32 only -64 is left of (-32 -64)
+        self.comes_to(sheet(128, [32], [64, 96, 128], [-32, -64]), 'clear', 3, '2147483648 0 2147483648 0')
+        # after 97 (97 -33) is met by it, and 33 is tried
+        self.comes_to(sheet(128, [97], [33, 65, 1], [97, -33], [-65], [-1]), 'clear', 3, '0 1 0 1')
+
+    def test_many_clauses(self):
+        # 64 true clauses are a word of them; wherever they stand the answer is the same
+        for more in (1, 60, 61, 62, 63, 64, 65, 127, 128, 1019):
+            kept = [[-6]] * more
+            opposites = [[-1], [-2], [-3]]
+            self.comes_to(sheet(6, [1, 2, 3], *kept, *opposites), 'none', 1)
+            self.comes_to(sheet(6, *kept, [1, 2, 3], *opposites), 'none', 1)
+            self.comes_to(sheet(6, *opposites, *kept, [1, 2, 3]), 'none', 1)
+            self.comes_to(sheet(6, [1, 2, 3], *kept, [4, 5], [-4], [-5]), 'none', 3)
+            # the lone opposites of 4, 5 and 6 do not concern (1 2 3), which is passed over
+            self.comes_to(sheet(7, [1, 2, 3], *[[-7]] * more, [4, 5, 6], [-4], [-5], [-6]), 'none', 1)
 
 
 class Around(unittest.TestCase):

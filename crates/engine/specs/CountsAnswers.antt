@@ -6,8 +6,8 @@ use lib.Dec.{ltb}
 use lib.ListN.{length, getD, List·getD-eq-default}
 use Rattle.formula.specs.Formula.{Clause, Formula, someMet}
 use Rattle.formula.specs.Sheet.{accepted, parse}
-use Rattle.search.specs.Ball.{State, true?, isTrue}
-use Rattle.search.specs.ReadingLaws.{onesOf, zerosOf, restricted, NoFlippedMet, reading-true, reading-ones, reading-zeros}
+use Rattle.search.specs.Ball.{State, true?, isTrue, restricted}
+use Rattle.search.specs.ReadingLaws.{onesOf, zerosOf, NoFlippedMet, reading-true, reading-ones, reading-zeros}
 use Rattle.search.specs.ClauseLaws.{counting-none}
 use Rattle.engine.specs.Replies.{clauseCountsOf, clauseCountsTo}
 

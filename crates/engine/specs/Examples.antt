@@ -1,5 +1,5 @@
--- The settled examples of paper 01, the one of paper 4 of 02 and one over four words, proved from the definitions by one joint
--- statement about one table.
+-- The settled examples of paper 01, the one of paper 4 of 02, one over four words, and one for each of paper 6's two rules, proved
+-- from the definitions by one joint statement about one table.
 use mathlib.Core.Path.{_≡_, refl}
 use mathlib.Core.Bool.{true, false}
 use mathlib.Core.List.{List, [], _∷_, _++_, map}
@@ -103,6 +103,8 @@ examples =
     ∷ row (run-of 2 2 5 all-four) (the-none 5)
     ∷ row (run-of 3 3 2 (sheet 3 ((pos 1 ∷ []) ∷ (pos 2 ∷ pos 3 ∷ []) ∷ (neg 1 ∷ []) ∷ []))) (the-none 2)
     ∷ row (run-of 1 1 9 (sheet 128 ((pos 128 ∷ []) ∷ (pos 33 ∷ []) ∷ (neg 32 ∷ []) ∷ []))) (the-clear (0 ∷ 1 ∷ 0 ∷ 2 ^ 31 ∷ []) 3)
+    ∷ row (run-of 1 1 2 (sheet 4 ((pos 1 ∷ pos 2 ∷ pos 3 ∷ []) ∷ (pos 4 ∷ []) ∷ (neg 4 ∷ []) ∷ []))) (the-none 2)
+    ∷ row (run-of 1 1 2 (sheet 3 ((pos 1 ∷ pos 2 ∷ pos 3 ∷ []) ∷ (neg 1 ∷ []) ∷ []))) (the-clear (2 ∷ 0 ∷ 0 ∷ 0 ∷ []) 2)
     ∷ row (code-of 2 1) (0 ∷ 1 ∷ [])
     ∷ row (code-of 3 1) (0 ∷ 7 ∷ [])
     ∷ row (code-of 4 1) (0 ∷ 7 ∷ 8 ∷ 15 ∷ [])
@@ -115,7 +117,7 @@ examples =
 pub examples-hold : map (λ r. ask (r .question)) examples ≡ map (λ r. r .answer) examples
 unfolding examples ask numbers answerNumbers wordsIn
     some every keep count first span bit toggle distance wordAt
-    Formula.bitOf Formula.met Formula.someMet Formula.allTrue Formula.names Formula.literalWord Formula.literalOf
+    Formula.bitOf Formula.met Formula.isOpposite Formula.someMet Formula.allTrue Formula.names Formula.literalWord Formula.literalOf
     Sheet.wordOf Sheet.words Sheet.kind Sheet.value Sheet._>>=_ Sheet._>>_ Sheet.refuse-when
     Sheet.take-word Sheet.take-number Sheet.take-literal
     Sheet.take-literals Sheet.take-clause Sheet.take-clauses Sheet.take-header Sheet.take-formula Sheet.parse
@@ -124,7 +126,9 @@ unfolding examples ask numbers answerNumbers wordsIn
     Volume.choose Volume.volume Volume.floor
     Operations.coded? Operations.fits? codeAnswer Operations.written codeTable Operations.measured? volumeAnswer floorAnswer
     Explore.calls Explore.plus Explore.after Explore.try Explore.call Explore.explore
-    Ball.isFlipped Ball.isOpen Ball.reading Ball.true? Ball.isTrue Ball.isDead Ball.flip Ball.isTried Ball.tried Ball.branch Ball.select Ball.skip Ball.rule Ball.ballTree Ball.ballSearch
+    Ball.isFlipped Ball.isOpen Ball.reading Ball.true? Ball.isTrue Ball.isDead
+    Ball.restricted Ball.meetsS Ball.flippedMet Ball.isLone Ball.hasLoneOpposite Ball.meetsL
+    Ball.flip Ball.isTried Ball.tried Ball.branch Ball.select Ball.skip Ball.rule Ball.ballTree Ball.ballSearch
     Search.blockOf Search.shortBlock Search.blocks Search.summedRadius Search.centreCount Search.centreAt
     Search.searchOf Search.ball Search.run
     Budget.whole Budget.answer

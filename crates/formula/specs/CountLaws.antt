@@ -1,7 +1,7 @@
 -- The laws of counts: how a toggle moves the number of met literals of a clause.
 use mathlib.Core.Path.{_≡_, refl, sym, ap, ap₂, _∙_}
 use mathlib.Core.Logic.{_⊎_, inl, inr}
-use mathlib.Core.Bool.{Bool, true, false, cond, not, _&&_, _||_, Bool·beq, and-false, or-false, true≢false, false≢true}
+use mathlib.Core.Bool.{Bool, true, false, cond, not, _&&_, _||_, Bool·beq, and-comm, and-false, or-false, true≢false, false≢true}
 use mathlib.Core.List.{[], _∷_, List·Memᴰ·not-nil, List·Memᴰ·cases-cons}
 use Prim.Native.Nat.{ℕ, _+_, _-_, _*_, _/_, _%_, _≤_, _<_, zero-le}
 use native.Mathlib.Omega.{arith}
@@ -13,7 +13,7 @@ use Rattle.words.specs.ListLaws.{and-left, and-right, refute, some-in, in-some}
 use Rattle.words.specs.Bits.{bit, toggle}
 use Rattle.words.specs.BitLaws.{digit, by-parity, same-test, bit-toggle-same, bit-toggle-other}
 use Rattle.words.specs.CountLaws.{count-cons, count-le, count-moves, count-adds, count-same, count-none, count-zero, some-digit}
-use Rattle.formula.specs.Formula.{Literal, Clause, WellFormedClause, met, bitOf, names, once, literalWord, literalOf}
+use Rattle.formula.specs.Formula.{Literal, Clause, WellFormedClause, met, isOpposite, bitOf, names, once, literalWord, literalOf}
 use Rattle.formula.specs.Counts.{signCount, holds, opposite, Steps}
 
 -- ---- the literals of one variable
@@ -101,6 +101,36 @@ opposite-split w l =
     go : (s : Bool) → Bool·beq s (eqb (1 - w % 2) 0) ≡ not (Bool·beq s (eqb (w % 2) 0))
     go true = by-parity (λ d. Bool·beq true (eqb (1 - d) 0) ≡ not (Bool·beq true (eqb d 0))) w (λ e. refl) (λ e. refl)
     go false = by-parity (λ d. Bool·beq false (eqb (1 - d) 0) ≡ not (Bool·beq false (eqb d 0))) w (λ e. refl) (λ e. refl)
+
+-- the word of the opposite
+is-opposite : (w : ℕ) (l : Literal) → is (opposite w) l ≡ isOpposite (literalOf w) l
+unfolding isOpposite literalOf
+is-opposite w l = opposite-split w l ∙ and-comm (not (Bool·beq (l .positive) (eqb (w % 2) 0))) (names? (w / 2) l)
+
+pub holds-opposite : (w : ℕ) (c : Clause) → holds (opposite w) c ≡ some (isOpposite (literalOf w)) c
+unfolding holds
+holds-opposite w c = λ i. some (λ l. is-opposite w l i) c
+
+-- Opposite literals have one variable, and an assignment meets just one of them.
+module _ (l x : Literal) (e : isOpposite l x ≡ true) where
+  pub opposite-bit : bitOf x ≡ bitOf l
+  unfolding isOpposite bitOf
+  opposite-bit =
+      ap (λ (v : ℕ). v - 1) (eqb-true (x .variable) (l .variable) (and-left _ (not (Bool·beq (x .positive) (l .positive))) e))
+
+  pub opposite-met : (m : ℕ) → met m x ≡ not (met m l)
+  unfolding isOpposite met
+  opposite-met m =
+      rw opposite-bit (go (bit m (bitOf l)) (l .positive) (x .positive)
+      (and-right (eqb (x .variable) (l .variable)) (not (Bool·beq (x .positive) (l .positive))) e))
+    where
+      go : (b p q : Bool) → not (Bool·beq q p) ≡ true → Bool·beq b q ≡ not (Bool·beq b p)
+      go b true true h = absurd (false≢true h)
+      go true true false h = refl
+      go false true false h = refl
+      go true false true h = refl
+      go false false true h = refl
+      go b false false h = absurd (false≢true h)
 
 -- a clause holds a literal or its opposite as often as it names the variable
 named-count : (w : ℕ) (c : Clause) → count (names? (w / 2)) c ≡ count (is w) c + count (is (opposite w)) c

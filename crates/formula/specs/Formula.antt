@@ -31,6 +31,10 @@ bitOf l = l .variable - 1
 unfoldable pub met : ℕ → Literal → Bool
 met m l = Bool·beq (bit m (bitOf l)) (l .positive)
 
+-- x is the opposite of l: the literal of the same variable with the other sign
+unfoldable pub isOpposite : Literal → Literal → Bool
+isOpposite l x = eqb (x .variable) (l .variable) && not (Bool·beq (x .positive) (l .positive))
+
 -- A clause is true if a literal in it is met: the empty clause never is.
 unfoldable pub someMet : ℕ → Clause → Bool
 someMet m c = some (met m) c

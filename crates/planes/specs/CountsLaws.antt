@@ -1,24 +1,30 @@
--- The laws of counts in planes: two rows move the numbers of all clauses, and the lowest lane of a word in which a test is passed is
--- the first clause that passes it.
+-- The laws of counts in planes: the clauses of a word that pass a test, and the first of them; what a pass over all words finds; and
+-- two rows that move the numbers of all clauses.
 use mathlib.Core.Path.{_≡_, refl, sym, ap, ap₂, _∙_}
-use mathlib.Core.Bool.{Bool, true, false, not, _&&_, true≢false}
+use mathlib.Core.Logic.{_⊎_, inl, inr}
+use mathlib.Core.Bool.{Bool, true, false, not, _&&_, and-true, true≢false}
 use mathlib.Core.List.{List}
 use Prim.Native.Nat.{ℕ, _+_, _*_, _/_, _%_, _^_, _≤_, _<_}
+use native.Mathlib.Nat.{eq-or-lt-of-le}
 use native.Mathlib.Omega.{arith}
 use lib.Bits.{bitAnd}
-use lib.Dec.{eqb, ltb}
-use lib.ListN.{getD}
+use lib.Dec.{eqb, leb, ltb}
+use lib.ListN.{length, getD, set}
+use lib.Seq.{getD-set-same, getD-set-other}
 use lib.Count.{trailingZeros, trailing-le}
-use borrow.Author.Tests.{lt-ltb, le-ltb, ltb-true, ltb-false}
-use Rattle.words.specs.Lists.{every}
+use borrow.Author.Tests.{lt-ltb, le-ltb, le-leb, ltb-true, ltb-false}
+use Rattle.words.specs.Lists.{some, every}
+use Rattle.words.specs.ListLaws.{and-left, in-some}
 use Rattle.words.specs.Bits.{bit}
 use Rattle.words.specs.BitLaws.{digit, bit-zero, trailing-below, trailing-at}
 use Rattle.formula.specs.Formula.{Clause}
 use Rattle.formula.specs.Counts.{holds, Steps}
 use Rattle.formula.specs.Machine.{clauseAt, held}
-use Rattle.formula.specs.HeldLaws.{held-every, held-fails}
+use Rattle.formula.specs.HeldLaws.{held-every, held-fails, held-none}
+use Rattle.formula.specs.TableLaws.{held-in}
 use Rattle.planes.specs.declared.Planes.{Planes}
-use Rattle.planes.specs.Machine.{lanes, rowWords, laneCount, rowCount, wordsOf, countIn, countAt, planesAt, Counts, Passing, First, isZero, lane, Occurs, Moved, ZerosAfter, Shifted}
+use Rattle.planes.specs.declared.Picks.{Picks}
+use Rattle.planes.specs.Machine.{lanes, rowWords, laneCount, rowCount, wordsOf, countAt, planesAt, Counts, Passing, First, Lanes, firstZero, bothZero, zeroFew, oneZero, passes, Told, Picked, lowest, lane, Occurs, Moved, ZerosAfter, Shifted}
 use Rattle.planes.specs.LaneLaws.{bit-and}
 
 -- ---- the lanes of a literal
@@ -33,7 +39,7 @@ module _ {k : ℕ} {cells occ : List ℕ} (o : Occurs k cells occ) (w i : ℕ) (
 
 -- ---- the clauses of a word that pass a test
 
-module _ {k : ℕ} {cells : List ℕ} {test : Clause → Bool} {w z : ℕ} (p : Passing k cells test w z) where
+module _ {k : ℕ} {test : ℕ → Bool} {w z : ℕ} (p : Passing k test w z) where
   -- a lane that is set belongs to a clause
   lane-used : (i : ℕ) → i / lanes ≡ w → bit z (i % lanes) ≡ true → i < k
   lane-used i e s = go (ltb i k) refl
@@ -44,23 +50,24 @@ module _ {k : ℕ} {cells : List ℕ} {test : Clause → Bool} {w z : ℕ} (p : 
 
   -- lanes of the word below lane t that are not set belong to clauses that fail
   fails-below : (t : ℕ) → t ≤ lanes → ((j : ℕ) → j < t → bit z j ≡ false) →
-      (i : ℕ) → lanes * w ≤ i → i < lanes * w + t → i < k → test (clauseAt cells i) ≡ false
+      (i : ℕ) → lanes * w ≤ i → i < lanes * w + t → i < k → test i ≡ false
   fails-below t r clear i l h inside = sym (p .each i inside (omega arith)) ∙ clear (i % lanes) (omega arith)
 
-  -- With no lane set, the first clause from the next word on is the first from this word on;
-  pub passing-none : z ≡ 0 → (r : ℕ) → First (lanes * (w + 1)) k cells test r → First (lanes * w) k cells test r
+  -- With no lane set, no clause of the word passes,
+  passing-clear : z ≡ 0 → (i : ℕ) → lanes * w ≤ i → i < lanes * (w + 1) → i < k → test i ≡ false
+  passing-clear e i l h = fails-below lanes (omega arith) (λ j u. rw e (bit-zero j)) i l (omega arith)
+
+  -- and the first clause from the next word on is the first from this word on;
+  pub passing-none : z ≡ 0 → (r : ℕ) → First (lanes * (w + 1)) k test r → First (lanes * w) k test r
   passing-none e r f = record { within = f .within; before = λ i l h. go i l h (ltb i (lanes * (w + 1))) refl; here = f .here }
     where
-      go : (i : ℕ) → lanes * w ≤ i → i < r → (b : Bool) → ltb i (lanes * (w + 1)) ≡ b → test (clauseAt cells i) ≡ false
-      go i l h true q =
-          let near : i < lanes * (w + 1) = ltb-true i (lanes * (w + 1)) q in
-          let inside : i < k = omega (arith, f .within) in
-          fails-below lanes (omega arith) (λ j u. rw e (bit-zero j)) i l (omega arith) inside
+      go : (i : ℕ) → lanes * w ≤ i → i < r → (b : Bool) → ltb i (lanes * (w + 1)) ≡ b → test i ≡ false
+      go i l h true q = passing-clear e i l (ltb-true i (lanes * (w + 1)) q) (omega (arith, f .within))
       go i l h false q = f .before i (ltb-false i (lanes * (w + 1)) q) h
 
   -- otherwise it is the clause of the lowest lane that is set.
   pub passing-lowest : (z ≡ 0 → ⊥) → z < 2 ^ lanes →
-      (lanes * w + trailingZeros lanes z < k) × First (lanes * w) k cells test (lanes * w + trailingZeros lanes z)
+      (lanes * w + trailingZeros lanes z < k) × First (lanes * w) k test (lanes * w + trailingZeros lanes z)
   passing-lowest some fits =
       let t = trailingZeros lanes z in
       let low = trailing-at lanes z some fits in
@@ -78,31 +85,112 @@ module _ {k : ℕ} {cells : List ℕ} {test : Clause → Bool} {w z : ℕ} (p : 
       )
 
 -- no clause is left: none passes
-pub first-end : {i k : ℕ} {cells : List ℕ} {test : Clause → Bool} → k ≤ i → First i k cells test k
+pub first-end : {i k : ℕ} {test : ℕ → Bool} → k ≤ i → First i k test k
 first-end e = record { within = omega arith; before = λ j l h. absurd (omega arith); here = λ h. absurd (omega arith) }
 
--- the clauses whose number is 0
-pub passing-zeros : {k : ℕ} {cells : List ℕ} {q : ℕ} {count : Clause → ℕ} {planes : List ℕ} → Counts k cells q count planes →
-    (w z : ℕ) → w < wordsOf k → ((j : ℕ) → j < lanes → bit z j ≡ eqb (countIn (planesAt planes (q + w)) j) 0) →
-    Passing k cells (isZero count) w z
-unfolding countAt
-passing-zeros {q = q} {planes = planes} s w z l zeros =
+-- the test may be said in another way
+pub first-same : {i k r : ℕ} {test test′ : ℕ → Bool} → ((j : ℕ) → test j ≡ test′ j) → First i k test r → First i k test′ r
+first-same e f = record { within = f .within; before = λ j l h. sym (e j) ∙ f .before j l h; here = λ h. sym (e _) ∙ f .here h }
+
+-- The first clause from number i on, where those before a later number do not count, is the first from that one on.
+pub first-from : {i from k r : ℕ} {test : ℕ → Bool} → i ≤ from → First i k (λ j. test j && leb from j) r → First from k test r
+first-from {from = from} {r = r} {test = test} l f =
     record {
-      each = λ i h e. here i e ∙ ap (λ (n : ℕ). eqb n 0) (s .each i h);
-      rest = λ i h e. here i e ∙ ap (λ (n : ℕ). eqb n 0) (s .rest i h (omega arith));
+      within = f .within;
+      before = λ j a b. sym (and-true (test j)) ∙ ap (λ (t : Bool). test j && t) (sym (le-leb from j a)) ∙ f .before j (omega arith) b;
+      here = λ h. and-left (test r) (leb from r) (f .here h);
+    }
+
+-- The clauses whose two numbers pass a test, which 1 and 1 do not: the lanes past the last clause have these.
+pub passing-told : {k : ℕ} {cells : List ℕ} {q q′ : ℕ} {count count′ : Clause → ℕ} {planes : List ℕ} {t : ℕ → ℕ → Bool} {w z : ℕ} →
+    Counts k cells q count planes → Counts k cells q′ count′ planes → t 1 1 ≡ false → w < wordsOf k → Told t planes q q′ w z →
+    Passing k (passes t cells count count′) w z
+unfolding countAt
+passing-told {q = q} {q′ = q′} {planes = planes} {t = t} {w = w} {z = z} s s′ past l told =
+    record {
+      each = λ i h e. here i e ∙ ap₂ t (s .each i h) (s′ .each i h);
+      rest = λ i h e. here i e ∙ ap₂ t (s .rest i h (omega arith)) (s′ .rest i h (omega arith)) ∙ past;
     }
   where
-    here : (i : ℕ) → i / lanes ≡ w → bit z (i % lanes) ≡ eqb (countAt planes q i) 0
-    here i e = rw e (zeros (i % lanes) (omega arith))
+    here : (i : ℕ) → i / lanes ≡ w → bit z (i % lanes) ≡ t (countAt planes q i) (countAt planes q′ i)
+    here i e = rw e (told .each (i % lanes) (omega arith))
 
--- those that pass two tests
-pub passing-both : {k : ℕ} {cells : List ℕ} {test test′ : Clause → Bool} {w z z′ : ℕ} → Passing k cells test w z →
-    Passing k cells test′ w z′ → Passing k cells (λ c. test c && test′ c) w (bitAnd z z′)
-passing-both {z = z} {z′ = z′} p p′ =
+-- those that pass another test too
+pub passing-also : {k : ℕ} {test test′ : ℕ → Bool} {w z : ℕ} → Passing k test w z → (z′ : ℕ) →
+    ((i : ℕ) → i < k → i / lanes ≡ w → bit z′ (i % lanes) ≡ test′ i) → Passing k (λ i. test i && test′ i) w (bitAnd z z′)
+passing-also {z = z} p z′ also =
     record {
-      each = λ i h e. bit-and z z′ (i % lanes) ∙ ap₂ _&&_ (p .each i h e) (p′ .each i h e);
-      rest = λ i h e. bit-and z z′ (i % lanes) ∙ ap₂ _&&_ (p .rest i h e) (p′ .rest i h e);
+      each = λ i h e. bit-and z z′ (i % lanes) ∙ ap₂ _&&_ (p .each i h e) (also i h e);
+      rest = λ i h e. bit-and z z′ (i % lanes) ∙ ap (λ (b : Bool). b && bit z′ (i % lanes)) (p .rest i h e);
     }
+
+-- ---- a pass over all clauses
+
+-- What is found from word w on, where no clause from there on has both numbers 0.
+pub record PickedFrom (k : ℕ) (cells : List ℕ) (count count′ : Clause → ℕ) (w : ℕ) (r : Picks) (row : List ℕ) : Type 0 where
+  pub none : First (lanes * w) k (passes bothZero cells count count′) k
+  pub first : First (lanes * w) k (passes firstZero cells count count′) (r .first)
+  pub few : First (lanes * w) k (passes zeroFew cells count count′) (r .few)
+  pub lone : First (lanes * w) k (passes oneZero cells count count′) (r .lone)
+  pub each : (v : ℕ) → w ≤ v → v < wordsOf k → Passing k (passes oneZero cells count count′) v (getD row v 0)
+
+module _ {k : ℕ} {cells : List ℕ} {count count′ : Clause → ℕ} where
+  pub picked-none : (row : List ℕ) → PickedFrom k cells count count′ (wordsOf k) (record { first = k; few = k; lone = k }) row
+  picked-none row =
+      record {
+        none = first-end (omega arith);
+        first = first-end (omega arith);
+        few = first-end (omega arith);
+        lone = first-end (omega arith);
+        each = λ v l h. absurd (omega arith);
+      }
+
+  pub picked-all : {r : Picks} {row : List ℕ} → PickedFrom k cells count count′ 0 r row → Picked k cells count count′ r row
+  picked-all p = lowest (p .none) (p .first) (p .few) (p .lone) (record { each = λ w. p .each w (omega arith) })
+
+-- the word stored in its place of the row
+pub row-stored : {k : ℕ} {test : ℕ → Bool} {w z : ℕ} (row : List ℕ) → w < length row →
+    ((v : ℕ) → w + 1 ≤ v → v < wordsOf k → Passing k test v (getD row v 0)) → Passing k test w z →
+    (v : ℕ) → w ≤ v → v < wordsOf k → Passing k test v (getD (set row w z) v 0)
+row-stored {k} {test} {w} {z} row room later here v l h = go (eq-or-lt-of-le l)
+  where
+    go : (w ≡ v) ⊎ (w < v) → Passing k test v (getD (set row w z) v 0)
+    go (inl e) = rw (← e, getD-set-same row w z 0 room) here
+    go (inr d) = rw (getD-set-other row w v z 0 (λ e. omega arith)) (later v (omega arith) h)
+
+-- ---- the clauses in some lanes that hold a literal
+
+module _ {k x : ℕ} {cells occ row : List ℕ} (test : Clause → Bool) (room : k ≤ laneCount) (l : x < rowCount)
+    (o : Occurs k cells occ) (p : Lanes k (λ i. test (clauseAt cells i)) row) where
+  abbrev isShared : Clause → Bool
+  isShared c = holds x c && test c
+
+  -- the lanes of word w
+  passing-shared : (w : ℕ) → w < wordsOf k →
+      Passing k (λ i. isShared (clauseAt cells i)) w (bitAnd (getD occ (x * rowWords + w) 0) (getD row w 0))
+  unfolding lane
+  passing-shared w h =
+      passing-also
+      (record {
+        each = λ i u e. rw e at (lane-held o x i l u room);
+        rest = λ i u e. rw e at (lane-past o x i l u (omega arith));
+      })
+      (getD row w 0)
+      (p .each w h .each)
+
+  pub some-shared : (w : ℕ) → w < wordsOf k → let z = bitAnd (getD occ (x * rowWords + w) 0) (getD row w 0) in
+      (z ≡ 0 → ⊥) → z < 2 ^ lanes → some isShared (held k cells) ≡ true
+  some-shared w h set fits =
+      let (used, f) = passing-lowest (passing-shared w h) set fits in
+      in-some isShared (held k cells) _ (held-in k cells _ used) (f .here used)
+
+  pub none-shared : ((w : ℕ) → w < wordsOf k → bitAnd (getD occ (x * rowWords + w) 0) (getD row w 0) ≡ 0) →
+      some isShared (held k cells) ≡ false
+  none-shared clear =
+      held-none k cells isShared (λ i h.
+      let w = i / lanes in
+      let u : w < wordsOf k = omega arith in
+      passing-clear (passing-shared w u) (clear w u) i (omega arith) (omega arith) h)
 
 -- ---- two rows
 
@@ -146,7 +234,7 @@ module _ {k q up down : ℕ} {cells occ from : List ℕ} {count next : Clause �
   apart-past i h r = rw (lane-past o down i (rows .1) h r, lane-past o up i (rows .0) h r) (omega arith)
 
   abbrev isAbove : Clause → Bool
-  isAbove c = not (isZero next c)
+  isAbove c = not (eqb (next c) 0)
 
   -- the clauses that are left with 0
   module _ (w z : ℕ) (l : w < wordsOf k) (zeros : LeavesZero q up down occ from w z) where
@@ -155,7 +243,7 @@ module _ {k q up down : ℕ} {cells occ from : List ℕ} {count next : Clause �
     unfolding lane countAt
     lane-tells i n e = rw (sym e) at (zeros .each (i % lanes) n (omega arith))
 
-    passing-after : Passing k cells (isZero next) w z
+    passing-after : Passing k (λ i. eqb (next (clauseAt cells i)) 0) w z
     passing-after =
         record {
           each = λ i h e. lane-tells i (next (clauseAt cells i)) e (apart-held i h) (sum-held i h);
@@ -170,5 +258,6 @@ module _ {k q up down : ℕ} {cells occ from : List ℕ} {count next : Clause �
   pub above-after : ((w : ℕ) → w < wordsOf k → LeavesZero q up down occ from w 0) → every isAbove (held k cells) ≡ true
   above-after zeros =
       held-every k cells isAbove (λ i h.
-      let l : i / lanes < wordsOf k = omega arith in
-      ap not (sym (passing-after (i / lanes) 0 l (zeros (i / lanes) l) .each i h refl) ∙ bit-zero (i % lanes)))
+      let w = i / lanes in
+      let l : w < wordsOf k = omega arith in
+      ap not (passing-clear (passing-after w 0 l (zeros w l)) refl i (omega arith) (omega arith) h))

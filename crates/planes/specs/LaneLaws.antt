@@ -2,13 +2,13 @@
 use mathlib.Core.Path.{_≡_, refl, sym, ap, _∙_}
 use mathlib.Core.Bool.{Bool, true, false, not}
 use Prim.Native.Nat.{ℕ, zero, suc, _-_, _*_, _/_, _%_, _^_, _≤_, _<_}
-use native.Mathlib.Nat.{not-suc-le-zero, le-of-suc-le-suc, div-eq-of-lt, pow-suc, one-mul, sub-zero}
+use native.Mathlib.Nat.{not-suc-le-zero, le-of-suc-le-suc, pow-suc, one-mul, sub-zero}
 use native.Mathlib.Omega.{arith}
 use lib.Dec.{eqb, leb, lit<}
 use lib.Pow.{pow-pos, pow-mono, pow-lt, shl-exact}
 use borrow.Author.Tests.{le-leb, lt-leb, leb-true, leb-false}
 use Rattle.words.specs.Bits.{bit}
-use Rattle.words.specs.BitLaws.{by-parity, bit-zero, bit-suc, bit-low}
+use Rattle.words.specs.BitLaws.{by-parity, bit-zero, bit-high, bit-suc, bit-low}
 use Rattle.planes.specs.Machine.{lanes}
 pub use Rattle.words.specs.BitLaws.{bit-xor, bit-and, bit-or}
 
@@ -44,11 +44,8 @@ one-shl s h = shl-exact {a = 1} 1 s lanes (lit< tt) (omega arith) ∙ one-mul (2
 pub bit-from : (s j : ℕ) → s < lanes → j < lanes → bit (2 ^ lanes - 1 - (2 ^ s - 1)) j ≡ leb s j
 bit-from s j h l = bit-not lanes (2 ^ s - 1) j (omega (arith, pow-lt h, pow-pos s)) l ∙ go (leb s j) refl
   where
-    high : (x : ℕ) → x < 2 ^ j → bit x j ≡ false
-    high x below = unfold bit in rw (div-eq-of-lt below)
-
     go : (b : Bool) → leb s j ≡ b → not (bit (2 ^ s - 1) j) ≡ b
-    go true e = ap not (high (2 ^ s - 1) (omega (arith, pow-pos s, pow-mono (leb-true s j e))))
+    go true e = ap not (bit-high j (2 ^ s - 1) (omega (arith, pow-pos s, pow-mono (leb-true s j e))))
     go false e =
         let less : bit (2 ^ s - 1) j ≡ bit (2 ^ s - 1 - 0) j = ap (λ (x : ℕ). bit x j) (sym (sub-zero (2 ^ s - 1))) in
         ap not (less ∙ bit-not s 0 j (pow-pos s) (leb-false s j e) ∙ ap not (bit-zero j))

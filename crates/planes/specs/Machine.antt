@@ -13,6 +13,8 @@ use Rattle.formula.specs.Formula.{Clause}
 use Rattle.formula.specs.Counts.{signCount, signWord, holds, Steps}
 use Rattle.formula.specs.Machine.{Table, clauseAt, held}
 use Rattle.planes.specs.declared.Planes.{Planes}
+use Rattle.planes.specs.declared.Tests.{Tests}
+use Rattle.planes.specs.declared.Picks.{Picks}
 
 -- ---- sizes
 
@@ -79,28 +81,55 @@ pub record Counts (k : ℕ) (cells : List ℕ) (q : ℕ) (count : Clause → ℕ
 -- ---- clauses that pass a test
 
 -- The lanes of z are those of the clauses of word w that pass the test.
-pub record Passing (k : ℕ) (cells : List ℕ) (test : Clause → Bool) (w z : ℕ) : Type 0 where
-  pub each : (i : ℕ) → i < k → i / lanes ≡ w → bit z (i % lanes) ≡ test (clauseAt cells i)
+pub record Passing (k : ℕ) (test : ℕ → Bool) (w z : ℕ) : Type 0 where
+  pub each : (i : ℕ) → i < k → i / lanes ≡ w → bit z (i % lanes) ≡ test i
   pub rest : (i : ℕ) → k ≤ i → i / lanes ≡ w → bit z (i % lanes) ≡ false
 
 -- r is the number of the first clause from number i on that passes the test, or k where none does.
-pub record First (i k : ℕ) (cells : List ℕ) (test : Clause → Bool) (r : ℕ) : Type 0 where
+pub record First (i k : ℕ) (test : ℕ → Bool) (r : ℕ) : Type 0 where
   pub within : r ≤ k
-  pub before : (j : ℕ) → i ≤ j → j < r → test (clauseAt cells j) ≡ false
-  pub here : r < k → test (clauseAt cells r) ≡ true
+  pub before : (j : ℕ) → i ≤ j → j < r → test j ≡ false
+  pub here : r < k → test r ≡ true
 
--- a clause's number is 0, and two numbers of it are
-abbrev pub isZero : (Clause → ℕ) → Clause → Bool
-isZero count c = eqb (count c) 0
+-- In a row of words the lanes of the k clauses that pass the test are set.
+pub record Lanes (k : ℕ) (test : ℕ → Bool) (words : List ℕ) : Type 0 where
+  pub each : (w : ℕ) → w < wordsOf k → Passing k test w (getD words w 0)
 
-abbrev pub bothZero : (Clause → ℕ) → (Clause → ℕ) → Clause → Bool
-bothZero count count′ c = isZero count c && isZero count′ c
+-- Tests of a clause's two numbers: the first is 0; both are; the first is 0 and the second at most 2; the first is 1 and the second 0.
+abbrev pub firstZero : ℕ → ℕ → Bool
+firstZero a b = eqb a 0
 
--- What a pass over all clauses answers: more than k where some clause has both numbers 0, and otherwise the number of the first one
--- with its first number 0, if there is one.
-pub data Picked (k : ℕ) (cells : List ℕ) (count count′ : Clause → ℕ) (r : ℕ) : Type 0 where
-  both : (i : ℕ) → i < k → bothZero count count′ (clauseAt cells i) ≡ true → k < r → Picked k cells count count′ r
-  lowest : First 0 k cells (bothZero count count′) k → First 0 k cells (isZero count) r → Picked k cells count count′ r
+abbrev pub bothZero : ℕ → ℕ → Bool
+bothZero a b = eqb a 0 && eqb b 0
+
+abbrev pub zeroFew : ℕ → ℕ → Bool
+zeroFew a b = eqb a 0 && leb b 2
+
+abbrev pub oneZero : ℕ → ℕ → Bool
+oneZero a b = eqb a 1 && eqb b 0
+
+-- the test of clause i
+abbrev pub passes : (ℕ → ℕ → Bool) → List ℕ → (Clause → ℕ) → (Clause → ℕ) → ℕ → Bool
+passes t cells count count′ i = t (count (clauseAt cells i)) (count′ (clauseAt cells i))
+
+-- The lanes of z are those of word w in which the numbers of two counters pass the test.
+pub record Told (t : ℕ → ℕ → Bool) (planes : List ℕ) (q q′ w z : ℕ) : Type 0 where
+  pub each : (j : ℕ) → j < lanes → bit z j ≡ t (countIn (planesAt planes (q + w)) j) (countIn (planesAt planes (q′ + w)) j)
+
+-- The four tests of the clauses of word w.
+pub record Tested (planes : List ℕ) (w : ℕ) (r : Tests) : Type 0 where
+  pub zero : Told firstZero planes firstCounter secondCounter w (r .zero)
+  pub both : Told bothZero planes firstCounter secondCounter w (r .both)
+  pub few : Told zeroFew planes firstCounter secondCounter w (r .few)
+  pub lone : Told oneZero planes firstCounter secondCounter w (r .lone)
+
+-- What a pass over all clauses answers: more than k where some clause has both numbers 0, and otherwise the first clause that passes
+-- each of the other tests, if there is one, and the lanes of all that pass the last.
+pub data Picked (k : ℕ) (cells : List ℕ) (count count′ : Clause → ℕ) (r : Picks) (lone : List ℕ) : Type 0 where
+  both : (i : ℕ) → i < k → passes bothZero cells count count′ i ≡ true → k < r .first → Picked k cells count count′ r lone
+  lowest : First 0 k (passes bothZero cells count count′) k → First 0 k (passes firstZero cells count count′) (r .first) →
+      First 0 k (passes zeroFew cells count count′) (r .few) → First 0 k (passes oneZero cells count count′) (r .lone) →
+      Lanes k (passes oneZero cells count count′) lone → Picked k cells count count′ r lone
 
 -- ---- the clauses that hold a literal
 

@@ -2,12 +2,12 @@
 use mathlib.Core.Path.{_≡_, refl, sym, _∙_}
 use mathlib.Core.Bool.{Bool, true, false, not, xor, _&&_, _||_}
 use mathlib.Core.List.{List}
-use Prim.Native.Nat.{ℕ, _+_, _-_, _*_, _%_, _≤_, _<_}
+use Prim.Native.Nat.{ℕ, _+_, _*_, _%_, _≤_, _<_}
 use native.Mathlib.Omega.{arith}
-use lib.Dec.{eqb}
+use lib.Dec.{eqb, leb}
 use lib.ListN.{length, getD, set, length-set}
 use lib.Seq.{getD-set-same, getD-set-other}
-use borrow.Author.Tests.{ne-eqb}
+use borrow.Author.Tests.{ne-eqb, le-leb, lt-leb}
 use borrow.Author.Count.{below-more}
 use Rattle.words.specs.BitLaws.{digit, same-test}
 use Rattle.planes.specs.declared.Planes.{Planes}
@@ -78,6 +78,24 @@ zero-number false true c d = sym (ne-eqb (number false true c d) 0 (λ e. omega 
 zero-number false false true d = sym (ne-eqb (number false false true d) 0 (λ e. omega arith))
 zero-number false false false true = refl
 zero-number false false false false = refl
+
+-- it is 1 where the first digit alone is set
+pub one-number : (a b c d : Bool) → (a && not ((b || c) || d)) ≡ eqb (number a b c d) 1
+one-number false b c d = sym (ne-eqb (number false b c d) 1 (λ e. omega arith))
+one-number true true c d = sym (ne-eqb (number true true c d) 1 (λ e. omega arith))
+one-number true false true d = sym (ne-eqb (number true false true d) 1 (λ e. omega arith))
+one-number true false false true = refl
+one-number true false false false = refl
+
+-- it is at most 2 where neither the first two digits nor a higher one are set
+pub few-number : (a b c d : Bool) → not (((a && b) || c) || d) ≡ leb (number a b c d) 2
+few-number true true c d = sym (lt-leb (number true true c d) 2 (omega arith))
+few-number true false true d = sym (lt-leb (number true false true d) 2 (omega arith))
+few-number true false false true = refl
+few-number true false false false = refl
+few-number false b true d = sym (lt-leb (number false b true d) 2 (omega arith))
+few-number false b false true = sym (lt-leb (number false b false true) 2 (omega arith))
+few-number false b false false = sym (le-leb (number false b false false) 2 (omega (arith, digit-le b)))
 
 -- Four digits: the number that `number-moves` speaks of is 0 where these digits are.
 pub zero-moves : (a b c e u d : Bool) (n : ℕ) → digit u + digit d ≤ 1 → n + digit d ≡ number a b c e + digit u →

@@ -1,14 +1,16 @@
 // Two numbers for each clause in bit planes, moved at each flip; what is counted is the caller's.
 ghost use mathlib.Core.Path.{_≡_};
-ghost use mathlib.Core.Bool.{true, false};
+ghost use mathlib.Core.Bool.{Bool, true, false, _&&_};
 ghost use mathlib.Core.List.{List};
 ghost use Prim.Native.Nat.{ℕ, _+_, _*_, _≤_, _<_};
 ghost use lib.Dec.{eqb, leb};
-ghost use lib.ListN.{length};
+ghost use lib.ListN.{length, getD};
+ghost use Rattle.words.specs.Lists.{some};
 ghost use Rattle.words.specs.Bits.{bit, width};
 ghost use Rattle.formula.specs.Formula.{lengthLimit, Clause};
-ghost use Rattle.formula.specs.Machine.{cellCount, lengthAt, literalAt, clauseAt};
-ghost use Rattle.planes.specs.Machine.{lanes, rowWords, laneCount, rowCount, occurrenceCells, firstCounter, secondCounter, slots, planeCells, countIn, planesAt, Counts, Picked, Readable, Occurs, Marked, Moved, ZerosAfter, Stored, ShiftedSlot, Shifted, AboveZero, Summed, Starts};
+ghost use Rattle.formula.specs.Counts.{holds};
+ghost use Rattle.formula.specs.Machine.{cellCount, lengthAt, literalAt, clauseAt, held};
+ghost use Rattle.planes.specs.Machine.{lanes, rowWords, laneCount, rowCount, occurrenceCells, firstCounter, secondCounter, slots, planeCells, countIn, planesAt, Counts, Passing, First, Lanes, Tested, Picked, Readable, Occurs, Marked, Moved, ZerosAfter, Stored, ShiftedSlot, Shifted, AboveZero, Summed, Starts};
 
 // The sizes of specs/Machine.antt: lanes of a word and of two words, words of a row, cells of the
 // occurrence table, slots of two counters, and cells of an array of planes.
@@ -16,7 +18,7 @@ const LANES: usize = 64;
 
 const PAIR: usize = 2 * LANES;
 
-const ROW: usize = 16;
+pub const ROW: usize = 16;
 
 pub const OCCURRENCES: usize = (2 * words::WIDTH as usize + 2) * ROW;
 
@@ -71,6 +73,20 @@ impl Planes {
         !(self.p0 | self.p1 | self.p2 | self.p3)
     }
 
+    // The lanes with count 1.
+    pub fn ones(self) -> u64
+        ensures { λ r. ⌜ ((j : ℕ) → j < lanes → bit r j ≡ eqb (countIn self j) 1) ⌝ }
+    {
+        self.p0 & !(self.p1 | self.p2 | self.p3)
+    }
+
+    // The lanes with count at most 2.
+    pub fn at_most_two(self) -> u64
+        ensures { λ r. ⌜ ((j : ℕ) → j < lanes → bit r j ≡ leb (countIn self j) 2) ⌝ }
+    {
+        !((self.p0 & self.p1) | self.p2 | self.p3)
+    }
+
     // The lanes that `moved` would leave with count 0, where no lane is both in up and in down.
     pub fn zeros_after(self, up: u64, down: u64) -> u64
         ensures { λ r. ⌜ ZerosAfter up down self r ⌝ }
@@ -83,6 +99,22 @@ impl Planes {
         };
         after.zeros()
     }
+}
+
+// The clauses of a word by their two numbers: the first is 0; both are 0; the first is 0 and the
+// second at most 2; the first is 1 and the second 0.
+pub struct Tests {
+    pub zero: u64,
+    pub both: u64,
+    pub few: u64,
+    pub lone: u64,
+}
+
+// What a pass over all clauses finds: the numbers of the first clauses of three kinds, or k.
+pub struct Picks {
+    pub first: usize,
+    pub few: usize,
+    pub lone: usize,
 }
 
 // The planes of a slot.
@@ -143,7 +175,7 @@ pub fn occurrences(cells: &[u32; formula::CELLS], k: usize) -> [u64; OCCURRENCES
     occ
 }
 
-// The lanes of word w that no clause has.
+// The lanes of word w from number k on.
 fn past(k: usize, w: usize) -> u64
     requires { ⌜ lanes * w ≤ k ⌝ }
     ensures { λ r. ⌜ ((j : ℕ) → j < lanes → bit r j ≡ leb k (lanes * w + j)) ⌝ }
@@ -249,27 +281,117 @@ pub fn shift(
     }
 }
 
-// More than k where some clause has both numbers 0; else the number of the first clause whose first
-// number is 0, or k. From the last word to the first, so that the first clause is met last.
-pub fn pick(planes: &[u64; PLANES], k: usize) -> usize
+// The clauses of word w that pass each test.
+fn tests_at(planes: &[u64; PLANES], w: usize) -> Tests
+    requires { ⌜ w < rowWords ⌝ }
+    ensures { λ r. ⌜ Tested (now (planes .entry)) w r ⌝ }
+{
+    let first = slot_at(planes, FIRST + w);
+    let second = slot_at(planes, SECOND + w);
+    let zero = first.zeros();
+    let none = second.zeros();
+    let few = second.at_most_two();
+    Tests {
+        zero,
+        both: zero & none,
+        few: zero & few,
+        lone: first.ones() & none,
+    }
+}
+
+// The first clause of word w in the lanes z, or else `later`.
+fn lowest(z: u64, w: usize, later: usize) -> usize
+    requires { ⌜ w < rowWords ⌝ }
+    ensures { λ r. ⌜ ((k : ℕ) (test : ℕ → Bool) → Passing k test w z → First (lanes * (w + 1)) k test later →
+        First (lanes * w) k test r) ⌝ }
+{
+    if z == 0 {
+        later
+    } else {
+        LANES * w + u64::trailing_zeros(z) as usize
+    }
+}
+
+// More than k where some clause has both numbers 0; else the first clause of each kind, and the
+// lanes of all those with the numbers 1 and 0. From the last word to the first, so that the first
+// clause is met last.
+pub fn pick(planes: &[u64; PLANES], k: usize, lone: &mut [u64; ROW]) -> Picks
     requires { ⌜ k ≤ laneCount ⌝ }
+    requires { ⌜ length (now lone) ≡ rowWords ⌝ }
     ensures { λ r. ⌜ ((cells : List ℕ) (count count′ : Clause → ℕ) → Counts k cells firstCounter count (now (planes .entry)) →
-        Counts k cells secondCounter count′ (now (planes .entry)) → Picked k cells count count′ r) ⌝ }
+        Counts k cells secondCounter count′ (now (planes .entry)) → Picked k cells count count′ r (now (lone .exit))) ⌝ }
 {
     let mut first = k;
+    let mut few = k;
+    let mut one = k;
     let mut w = (k + (LANES - 1)) / LANES;
     while 0 < w {
         w -= 1;
-        let zeros = slot_at(planes, FIRST + w).zeros();
-        let both = zeros & slot_at(planes, SECOND + w).zeros();
-        if both != 0 {
-            return k + 1;
+        let tests = tests_at(planes, w);
+        if tests.both != 0 {
+            return Picks {
+                first: k + 1,
+                few: k,
+                lone: k,
+            };
         }
-        if zeros != 0 {
-            first = LANES * w + u64::trailing_zeros(zeros) as usize;
-        }
+        first = lowest(tests.zero, w, first);
+        few = lowest(tests.few, w, few);
+        one = lowest(tests.lone, w, one);
+        lone[w] = tests.lone;
     }
-    first
+    Picks {
+        first,
+        few,
+        lone: one,
+    }
+}
+
+// The first clause from number `from` on whose first number is 0, or k.
+pub fn next_zero(planes: &[u64; PLANES], k: usize, from: usize) -> usize
+    requires { ⌜ (k ≤ laneCount) × (from ≤ k) ⌝ }
+    ensures { λ r. ⌜ from ≤ r ⌝ }
+    ensures { λ r. ⌜ ((cells : List ℕ) (count : Clause → ℕ) → Counts k cells firstCounter count (now (planes .entry)) →
+        First from k (λ i. eqb (count (clauseAt cells i)) 0) r) ⌝ }
+{
+    let words = (k + (LANES - 1)) / LANES;
+    let mut w = from / LANES;
+    let mut seen = past(from, w);
+    while w < words {
+        let zeros = slot_at(planes, FIRST + w).zeros() & seen;
+        if zeros != 0 {
+            return LANES * w + u64::trailing_zeros(zeros) as usize;
+        }
+        seen = !0u64;
+        w += 1;
+    }
+    k
+}
+
+// Word w of a literal's row. A call's result is known to fit its type, which an element of an array
+// is not.
+fn row_word(occ: &[u64; OCCURRENCES], literal: u32, w: usize) -> u64
+    requires { ⌜ (literal < rowCount) × (w < rowWords) ⌝ }
+    ensures { λ r. ⌜ r ≡ getD (now (occ .entry)) (literal * rowWords + w) 0 ⌝ }
+{
+    occ[literal as usize * ROW + w]
+}
+
+// Whether some clause among these lanes holds a literal.
+pub fn shares(occ: &[u64; OCCURRENCES], k: usize, literal: u32, among: &[u64; ROW]) -> bool
+    requires { ⌜ (k ≤ laneCount) × (literal < rowCount) ⌝ }
+    ensures { λ r. ⌜ ((cells : List ℕ) (test : Clause → Bool) → Occurs k cells (now (occ .entry)) →
+        Lanes k (λ i. test (clauseAt cells i)) (now (among .entry)) → r ≡ some (λ c. holds literal c && test c) (held k cells)) ⌝ }
+{
+    let words = (k + (LANES - 1)) / LANES;
+    let mut w: usize = 0;
+    while w < words {
+        if row_word(occ, literal, w) & among[w] != 0 {
+            return true;
+        }
+        w += 1;
+    }
+    false
 }
 
 // Whether every first number would be above 0 after `shift` by these rows: the last level of a

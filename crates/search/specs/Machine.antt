@@ -1,6 +1,6 @@
 -- What the search machine is given and what it answers, read as the definitions.
 use mathlib.Core.Path.{_≡_}
-use mathlib.Core.Bool.{Bool, true, false, cond}
+use mathlib.Core.Bool.{Bool, true, false, cond, not}
 use mathlib.Core.List.{List, [], _∷_, _++_}
 use Prim.Native.Nat.{ℕ, _+_, _-_, _*_, _/_, _%_, _^_, _≤_, _<_, min}
 use lib.ListN.{length, getD, take, drop, replicate}
@@ -16,11 +16,12 @@ use Rattle.tree.specs.Explore.{Outcome, none, try}
 use Rattle.tree.specs.Budget.{Answer}
 use Rattle.tree.specs.BudgetLaws.{settle, rest}
 use Rattle.tree.specs.Machine.{answerIn}
-use Rattle.planes.specs.Machine.{firstCounter, secondCounter, planeCells, Occurs, Counts}
+use Rattle.planes.specs.declared.Picks.{Picks}
+use Rattle.planes.specs.Machine.{firstCounter, secondCounter, planeCells, First, Lanes, oneZero, passes, Occurs, Counts}
 use Rattle.search.specs.declared.path.Path.{Path}
 use Rattle.search.specs.declared.choice.Choice.{Choice}
 use Rattle.search.specs.declared.reading.Reading.{Reading as ClauseReading}
-use Rattle.search.specs.Ball.{State, Reading, reading, isTrue, isFlipped, isOpen, flip, isTried, tried, skip, rule, ballSearch}
+use Rattle.search.specs.Ball.{State, Reading, reading, isTrue, isDead, isFlipped, isOpen, meetsS, meetsL, flip, isTried, tried, select, skip, rule, ballSearch}
 use Rattle.search.specs.Run.{Block, Search, plan, blocks, summedRadius, centreAt, ball, centreCount}
 use Rattle.search.specs.declared.centre.Layout.{Layout}
 use Rattle.search.specs.declared.centre.Partial.{Partial}
@@ -60,6 +61,29 @@ pub record Begins (n k : ℕ) (occ planes : List ℕ) : Type 0 where
 pub record Flags (cells : List ℕ) (clause size : ℕ) (test : Literal → Bool) (r : ℕ) : Type 0 where
   pub each : (j : ℕ) → j < size → bit r j ≡ test (literalOf (literalAt cells clause j))
   pub below : r < 2 ^ size
+
+-- In `lone` the lanes of the clauses with one literal met and none open are set.
+abbrev pub Lone : ℕ → List ℕ → State → List ℕ → Type 0
+Lone k cells s lone = Lanes k (passes oneZero cells (λ c. reading s c .met) (λ c. reading s c .«open»)) lone
+
+-- clause i meets L
+abbrev pub isSpared : ℕ → List ℕ → State → ℕ → Bool
+isSpared k cells s i = meetsL (held k cells) s (clauseAt cells i)
+
+-- What one pass over the planes told of a state: no clause is dead; which is the first false clause, the first that meets S, and the
+-- first with one literal met and none open.
+pub record Looked (k : ℕ) (cells : List ℕ) (s : State) (r : Picks) : Type 0 where
+  pub alive : (i : ℕ) → i < k → isDead s (clauseAt cells i) ≡ false
+  pub first : First 0 k (λ i. not (isTrue s (clauseAt cells i))) (r .first)
+  pub few : First 0 k (λ i. meetsS s (clauseAt cells i)) (r .few)
+  pub lone : First 0 k (passes oneZero cells (λ c. reading s c .met) (λ c. reading s c .«open»)) (r .lone)
+
+-- r is the number of the clause that the rule selects; it meets S exactly if it is the first that does.
+pub record Selected (k : ℕ) (cells : List ℕ) (s : State) (few r : ℕ) : Type 0 where
+  pub inside : r < k
+  pub same : select (held k cells) s ≡ clauseAt cells r
+  pub failing : isTrue s (clauseAt cells r) ≡ false
+  pub short : meetsS s (clauseAt cells r) ≡ eqb r few
 
 -- What a call branches on: a clause that is false, and those of its literals that are tried.
 pub record Branch (k : ℕ) (cells : List ℕ) (s : State) (r : Choice) : Type 0 where

@@ -11,14 +11,15 @@ use lib.Dec.{eqb, leb}
 use lib.ListN.{length}
 use borrow.Author.Tests.{eqb-true, eqb-false, leb-true, leb-false, not-true}
 use Rattle.words.specs.Lists.{In, some, every, first}
-use Rattle.words.specs.ListLaws.{every-in, some-in, keep-in, in-keep, length-keep, first-has, and-right, refute}
+use Rattle.words.specs.ListLaws.{every-in, some-in, keep-in, in-keep, length-keep, first-has, first-none, only-passes, and-right, or-cases, refute}
 use Rattle.words.specs.Bits.{bit, toggle, distance}
 use Rattle.words.specs.BitLaws.{not-same, bit-toggle-same, bit-toggle-other, toggle-lt, distance-toggle, distance-zero}
-use Rattle.formula.specs.Formula.{Literal, Clause, bitOf, met, someMet, allTrue}
+use Rattle.formula.specs.Formula.{Literal, Clause, bitOf, met, isOpposite, someMet, allTrue}
+use Rattle.formula.specs.CountLaws.{opposite-met}
 use Rattle.tree.specs.Explore.{found, calls, powers}
-use Rattle.search.specs.Ball.{State, isTrue, isDead, isFlipped, flip, Rule, isTried, tried, branch, select, skip, rule, ballTree, ballSearch}
+use Rattle.search.specs.Ball.{State, isTrue, isDead, isFlipped, restricted, meetsS, isLone, hasLoneOpposite, meetsL, flip, Rule, isTried, tried, branch, select, skip, rule, ballTree, ballSearch}
 use Rattle.search.specs.Run.{longest}
-use Rattle.search.specs.ReadingLaws.{reading-true, false-unmet, dead-false, dead-flipped}
+use Rattle.search.specs.ReadingLaws.{reading-true, false-unmet, dead-false, dead-flipped, short-false, lone-false, in-left, lone-one, lone-left, lone-flipped}
 use Rattle.tree.specs.TreeLaws.{Finds, explore-gives, explore-hit, explore-calls}
 
 -- A goal of a ball's tree is a model: the theorems on one ball cite no other law of readings.
@@ -163,12 +164,11 @@ fails p (x ∷ xs) e = go (λ e′. fails p xs e′) (p x) e
     go below true e′ = below e′
     go below false e′ = refl
 
--- a flipped literal of a false clause is met by no assignment that agrees with the flipped variables
-flipped-unmet : (s : State) (c : Clause) → isTrue s c ≡ false → (w : ℕ) → Agrees s w → (l : Literal) → In l c →
-    isFlipped s l ≡ true → met w l ≡ false
+-- a flipped literal that is not met is met by no assignment that agrees with the flipped variables
+agrees-unmet : (s : State) (w : ℕ) → Agrees s w → (l : Literal) → isFlipped s l ≡ true → met (s .assignment) l ≡ false →
+    met w l ≡ false
 unfolding Agrees isFlipped
-flipped-unmet s c e w a l i f =
-    refute (met w l) (λ m. differs (s .assignment) w l (false-unmet s c e l i) m (sym (a (bitOf l) f)))
+agrees-unmet s w a l f e = refute (met w l) (λ m. differs (s .assignment) w l e m (sym (a (bitOf l) f)))
 
 -- A dead clause is true under no assignment that agrees with the flipped variables.
 pub dead-lost : (s : State) (c : Clause) → isDead s c ≡ true → (w : ℕ) → Agrees s w → someMet w c ≡ false
@@ -176,7 +176,33 @@ unfolding someMet
 dead-lost s c e w a =
     refute (some (met w) c) (λ q.
     let (l, i, m) = some-in (met w) c q in
-    true≢false (sym m ∙ flipped-unmet s c (dead-false s c e) w a l i (dead-flipped s c e l i)))
+    true≢false (sym m ∙ agrees-unmet s w a l (dead-flipped s c e l i) (false-unmet s c (dead-false s c e) l i)))
+
+-- Lemma 6 of source 000, for clauses of any length: a literal that has a lone opposite is met by no model that agrees with the
+-- flipped variables. Such a model meets a literal of the clause in which the opposite is alone, and no flipped one.
+pub lone-unmet : (cs : List Clause) (s : State) (l : Literal) → hasLoneOpposite cs s l ≡ true →
+    (w : ℕ) → allTrue w cs ≡ true → Agrees s w → met w l ≡ false
+unfolding hasLoneOpposite allTrue someMet
+lone-unmet cs s l e w model a =
+    let (c, i, lone) = some-in (isLone s l) cs e in
+    let (x, j, m) = some-in (met w) c (every-in (someMet w) cs model c i) in
+    let fresh : isFlipped s x ≡ false = refute (isFlipped s x) (λ f.
+    true≢false (sym m ∙ agrees-unmet s w a x f (lone-flipped s l c lone x j f))) in
+    let opp = only-passes (isOpposite l) (restricted s c) (lone-one s l c lone) (lone-left s l c lone) x (in-left s c x j fresh) in
+    not-true (met w l) (sym (opposite-met l x opp w) ∙ m)
+
+-- ---- the engine's rule
+
+-- a clause that is taken before the first false one
+abbrev pub preferred : List Clause → State → Clause → Bool
+preferred cs s c = meetsS s c || meetsL cs s c
+
+pub preferred-false : (cs : List Clause) (s : State) (c : Clause) → preferred cs s c ≡ true → isTrue s c ≡ false
+preferred-false cs s c e = ⊎-elim (short-false s c) (lone-false cs s c) (or-cases (meetsS s c) (meetsL cs s c) e)
+
+skip-lone : (cs : List Clause) (s : State) (l : Literal) → skip cs s l ≡ true → hasLoneOpposite cs s l ≡ true
+unfolding skip
+skip-lone cs s l e = and-right (not (meetsS s (select cs s))) (hasLoneOpposite cs s l) e
 
 -- The engine's rule: no literal where some clause is dead, and otherwise those of the clause selected.
 pub rule-dead : (cs : List Clause) (s : State) → some (isDead s) cs ≡ true → rule cs s ≡ []
@@ -202,7 +228,7 @@ module _ (n : ℕ) (cs : List Clause) (known : Known n cs) where
             let (l, i, m) = some-in (met w) (select s) (every-in (someMet w) cs model (select s) (f .chosen)) in
             let unskipped : skip s l ≡ false = refute (skip s l) (λ e. true≢false (sym m ∙ f .spared w model a l i e)) in
             let still : isFlipped s l ≡ false =
-            refute (isFlipped s l) (λ e. true≢false (sym m ∙ flipped-unmet s (select s) (f .failing) w a l i e)) in
+            refute (isFlipped s l) (λ e. true≢false (sym m ∙ agrees-unmet s w a l e (unmet l i))) in
             (l, in-keep (isTried skip s) (select s) l i (tries skip s l unskipped still), m);
       }
     where
@@ -216,14 +242,20 @@ module _ (n : ℕ) (cs : List Clause) (known : Known n cs) where
       unmet l i = false-unmet s (select s) (f .failing) l i
 
   rule-fair : (s : State) → every (isTrue s) cs ≡ false → Fair cs (select cs) (skip cs) s
-  unfolding select skip
+  unfolding select
   rule-fair s g =
-      let (i, e) = first-has (λ c. not (isTrue s c)) cs [] (fails (isTrue s) cs g) in
+      let (i, e) = selected (some (preferred cs s) cs) refl in
       record {
         chosen = i;
-        failing = not-true _ e;
-        spared = λ w model a l i′ e′. absurd (false≢true e′);
+        failing = e;
+        spared = λ w model a l i′ e′. lone-unmet cs s l (skip-lone cs s l e′) w model a;
       }
+    where
+      selected : (b : Bool) → some (preferred cs s) cs ≡ b → In (select cs s) cs × (isTrue s (select cs s) ≡ false)
+      selected true e = let (i, p) = first-has (preferred cs s) cs _ e in (i, preferred-false cs s _ p)
+      selected false e =
+          let (i, p) = first-has (λ c. not (isTrue s c)) cs [] (fails (isTrue s) cs g) in
+          rw (first-none (preferred cs s) cs _ e) (i, not-true _ p)
 
   -- Where a clause is dead no model agrees with the flipped variables, and no literal is owed.
   dead-branches : (k : ℕ) (s : State) → some (isDead s) cs ≡ true → Branches n k cs s []
@@ -247,13 +279,3 @@ module _ (n : ℕ) (cs : List Clause) (known : Known n cs) where
       go : (b : Bool) → some (isDead s) cs ≡ b → Branches n (longest cs) cs s (rule cs s)
       go true e = rw (rule-dead cs s e) (dead-branches (longest cs) s e)
       go false e = rw (rule-tried cs s e) (branch-lawful (select cs) (skip cs) rule-fair s g)
-
--- what the machine cites of the clause selected, and of a literal of it
-pub select-first : (cs : List Clause) (s : State) → select cs s ≡ first (λ c. not (isTrue s c)) cs []
-unfolding select
-select-first cs s = refl
-
--- a literal of it is tried where its variable is not flipped
-pub tried-unflipped : (cs : List Clause) (s : State) (l : Literal) → isTried (skip cs) s l ≡ not (isFlipped s l)
-unfolding isTried skip
-tried-unflipped cs s l = refl

@@ -35,7 +35,7 @@ pub fn call(
     if tree::exhausted(calls, budget) {
         return Found::Spent(budget);
     }
-    let choice = choice::choose(cells, k, planes, at);
+    let choice = choice::choose(cells, occ, k, planes, at);
     let clause = choice.clause;
     if clause == k {
         let model = at.assignment;

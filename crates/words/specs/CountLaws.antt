@@ -3,10 +3,11 @@ use mathlib.Core.Path.{_≡_, refl, sym, ap, _∙_}
 use mathlib.Core.Bool.{Bool, true, false, cond, not, _&&_, _||_}
 use mathlib.Core.List.{List, [], _∷_, List·Memᴰ·head, List·Memᴰ·tail}
 use Prim.Native.Nat.{ℕ, zero, suc, _+_, _≤_}
+use native.Mathlib.Nat.{pos-of-ne-zero}
 use native.Mathlib.Omega.{arith}
 use lib.Dec.{eqb, eqb·suc-zero}
 use lib.ListN.{length}
-use borrow.Author.Tests.{eqb-true, not-false}
+use borrow.Author.Tests.{eqb-true, eqb-false, not-true, not-false}
 use Rattle.words.specs.Lists.{In, some, every, keep, count}
 use Rattle.words.specs.ListLaws.{length-keep}
 use Rattle.words.specs.BitLaws.{digit}
@@ -85,7 +86,10 @@ module _ {A : Type 0} where
       go (suc zero) l = refl
       go (suc (suc t)) l = absurd (omega arith)
 
-  -- a test that no element passes
+  -- a test that some element passes, and one that none passes
+  pub count-some : (p : A → Bool) (xs : List A) → some p xs ≡ true → 1 ≤ count p xs
+  count-some p xs e = pos-of-ne-zero (eqb-false _ 0 (not-true _ (sym (some-count p xs) ∙ e)))
+
   pub count-zero : (p : A → Bool) (xs : List A) → some p xs ≡ false → count p xs ≡ 0
   count-zero p xs e = eqb-true _ 0 (not-false _ (sym (some-count p xs) ∙ e))
 

@@ -1,7 +1,7 @@
 -- The laws of tests over lists: what each test says of the members, and what it comes to element by element.
 use mathlib.Core.Path.{_≡_, refl, sym, ap, _∙_}
 use mathlib.Core.Logic.{_⊎_, inl, inr, ⊎-elim}
-use mathlib.Core.Bool.{Bool, true, false, cond, _&&_, _||_, or-false, or-assoc, Bool·beq, false≢true}
+use mathlib.Core.Bool.{Bool, true, false, cond, _&&_, _||_, or-false, or-assoc, Bool·beq, false≢true, true≢false}
 use mathlib.Core.List.{List, [], _∷_, _++_, List·Memᴰ·head, List·Memᴰ·tail, List·Memᴰ·not-nil, List·Memᴰ·cases-cons}
 use Prim.Native.Nat.{ℕ, zero, suc, _+_, _≤_, _<_, zero-le, suc-le-suc}
 use native.Mathlib.Nat.{le-step, eq-or-lt-of-le, suc-add, add-zero, add-suc}
@@ -147,6 +147,24 @@ module _ {A : Type 0} where
           In (cond b y (first p ys d)) (y ∷ ys) × (p (cond b y (first p ys d)) ≡ true)
       go below true q e′ = (List·Memᴰ·head refl, q)
       go below false q e′ = (List·Memᴰ·tail (below e′ .0), below e′ .1)
+
+  -- where none passes there is no first one
+  pub first-none : (p : A → Bool) (xs : List A) (d : A) → some p xs ≡ false → first p xs d ≡ d
+  unfolding some first
+  first-none p [] d e = refl
+  first-none p (y ∷ ys) d e = go (λ e′. first-none p ys d e′) (p y) e
+    where
+      go : (some p ys ≡ false → first p ys d ≡ d) → (b : Bool) → (b || some p ys) ≡ false → cond b y (first p ys d) ≡ d
+      go below true e′ = absurd (true≢false e′)
+      go below false e′ = below e′
+
+  -- where a list has one element and some element passes, each one does
+  pub only-passes : (p : A → Bool) (xs : List A) → length xs ≡ 1 → some p xs ≡ true → (x : A) → In x xs → p x ≡ true
+  unfolding some
+  only-passes p [] h e x i = absurd (List·Memᴰ·not-nil i)
+  only-passes p (y ∷ []) h e x i =
+      ⊎-elim (λ q. ap p q ∙ sym (or-false (p y)) ∙ e) (λ j. absurd (List·Memᴰ·not-nil j)) (List·Memᴰ·cases-cons i)
+  only-passes p (y ∷ z ∷ ys) h e x i = absurd (omega arith)
 
 -- a run of numbers holds just those from its start to its end
 pub in-span : (i n x : ℕ) → i ≤ x → x < i + n → In x (span i n)

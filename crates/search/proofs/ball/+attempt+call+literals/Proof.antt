@@ -123,7 +123,7 @@ module _ (t : ℕ) where
   enough c = leb-false _ _ (sym (c .before .exhausted .ensures) ∙ c .if1 .left)
 
   call-choose-requires : call-lts.Need-choose-requires (call-claims t) (call-at t) call.Post
-  call-choose-requires c κs = (c .before .before .pre .1 .0 .table, c .before .before .pre .1 .1)
+  call-choose-requires c κs = c .before .before .pre .1
 
   -- what the choice says
   first : (c : call-lts.After-choose (call-claims t) (call-at t) call.Post) →

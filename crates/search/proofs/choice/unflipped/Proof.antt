@@ -1,19 +1,14 @@
 -- `unflipped` meets its contract: the bits so far are those of the literals so far.
+use mathlib.Core.Path.{_≡_, sym, ap}
+use mathlib.Core.Bool.{not}
 use Prim.Native.Nat.{_-_, _≤_, _<_}
 use native.Mathlib.Omega.{arith}
-use mathlib.Core.Path.{_≡_, sym, ap, _∙_}
-use mathlib.Core.Logic.{⊎-elim}
-use mathlib.Core.Bool.{not}
-use native.Mathlib.Nat.{one-mul}
-use lib.Dec.{lit<}
-use lib.Pow.{shl-exact}
-use Rattle.words.specs.Bits.{toggle}
 use Rattle.words.specs.Bits.{width}
 use Rattle.formula.specs.Machine.{Row, lengthAt}
 use Rattle.formula.specs.TableLaws.{table-row, clause-known}
 use Rattle.search.specs.Ball.{isFlipped}
 use Rattle.search.specs.Machine.{stateIn, Flags}
-use Rattle.search.specs.ChoiceLaws.{flags-none, flags-set, flags-clear}
+use Rattle.search.specs.ChoiceLaws.{flags-none}
 use Rattle.search.proofs.choice.unflipped.Statement.{statement}
 use Rattle.search.proofs.choice.unflipped.Tie as tie
 
@@ -24,15 +19,15 @@ Inv-loop cells k at clause size flags₀ j₀ flags j =
 abbrev μ-loop : tie.MeasureT-loop
 μ-loop cells k at clause size flags₀ j₀ flags j = size - j
 
-length-at-requires : tie.Need-length-at-requires Inv-loop μ-loop
-length-at-requires c κs = table-row (c .pre .0) _ (c .pre .1) .inside
-
-loop-holds : tie.Need-loop-holds Inv-loop μ-loop
-loop-holds c = (omega arith, flags-none)
-
 -- the clause's row
 row : (c : tie.Start Inv-loop μ-loop) → Row (c .args .cells .now) (c .args .clause)
 row c = table-row (c .pre .0) _ (c .pre .1)
+
+length-at-requires : tie.Need-length-at-requires Inv-loop μ-loop
+length-at-requires c κs = row c .inside
+
+loop-holds : tie.Need-loop-holds Inv-loop μ-loop
+loop-holds c = (omega arith, flags-none)
 
 -- there is a literal j
 more : (c : tie.In-loop Inv-loop μ-loop) →
@@ -40,44 +35,27 @@ more : (c : tie.In-loop Inv-loop μ-loop) →
 more c = omega (arith, c .loop-test .taken, c .before .before .length-at .ensures)
 
 literal-at-requires : tie.Need-literal-at-requires Inv-loop μ-loop
-literal-at-requires c κs =
-    let r = row (c .before .before .before) in
-    (r .inside, omega (arith, r .short, more c))
+literal-at-requires c κs = let r = row (c .before .before .before) in (r .inside, omega (arith, r .short, more c))
 
 has-flipped-requires : tie.Need-has-flipped-requires Inv-loop μ-loop
 has-flipped-requires c κs =
     let a = c .before .before .before .before in
     rw (c .literal-at .ensures) (clause-known width _ _ (a .pre .0) _ (a .pre .1) _ (more (c .before)))
 
-shl-flags : tie.Need-shl-flags Inv-loop μ-loop
-shl-flags c =
-    let d = c .before .before .before in
-    omega (arith, more d, row (d .before .before .before) .short)
+with-flag-requires : tie.Need-with-flag-requires Inv-loop μ-loop
+with-flag-requires c κs = let d = c .before .before in omega (arith, more d, row (d .before .before .before) .short)
 
 add-j : tie.Need-add-j Inv-loop μ-loop
-add-j c =
-    let d = c .before .before .before in
-    omega (arith, more d, row (d .before .before .before) .short)
+add-j c = let d = c .before .before .before in omega (arith, more d, row (d .before .before .before) .short)
 
 loop-less : tie.Need-loop-less Inv-loop μ-loop
 loop-less c = omega arith
 
 loop-again : tie.Need-loop-again Inv-loop μ-loop
-unfolding toggle
 loop-again c =
     let d = c .before .before .before in
-    let inv = d .before .loop .inv in
-    let more′ = more d in
-    let small = row (d .before .before .before) .short in
     let flipped = rw (c .before .before .literal-at .ensures) at (c .before .has-flipped .ensures) in
-    ⊎-elim
-    (λ w. (
-      omega arith,
-      rw (w .1, shl-exact {a = 1} 1 (d .before .loop .j) 32 (lit< tt) (omega arith), one-mul)
-          (flags-set (inv .1) (ap not (sym flipped) ∙ w .0 .taken)),
-    ))
-    (λ w. (omega arith, rw (w .1) (flags-clear (inv .1) (ap not (sym flipped) ∙ w .0 .left))))
-    (c .if1 .came)
+    (omega (arith, more d), c .with-flag .ensures _ _ _ (d .before .loop .inv .1) (ap not (sym flipped)))
 
 returns : tie.Need-returns Inv-loop μ-loop
 returns c =
@@ -97,7 +75,7 @@ unflipped-spec =
     loop-holds
     literal-at-requires
     has-flipped-requires
-    shl-flags
+    with-flag-requires
     add-j
     loop-less
     loop-again
