@@ -1,4 +1,4 @@
-/* A plain C implementation of paper 01 and of papers 2, 4, 5 and 6 of 02, as one would write it without proofs. It is the baseline of bench/run
+/* A plain C implementation of paper 01 and of papers 2 and 4 to 7 of 02, as one would write it without proofs. It is the baseline of bench/run
    and shares no code with the crates. The search has two forms: as the steps are worded, with masks per clause, in plain_masks.h; and with a
    byte of counts per clause, 16 at a time, in plain_counts.h (vectors). What depends on the masks' width is taken twice: for 32 variables, as
    before paper 5, and for 128. */

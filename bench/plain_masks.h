@@ -86,16 +86,15 @@ static MASK PLAIN(opposed)(const struct PLAIN(sheet) *sheet, uint32_t i, MASK ma
 
 static int PLAIN(two_at_most)(MASK x) { x &= x - 1; return !(x & (x - 1)); }
 
-/* The clause that is tried, as the step is worded: the first one that meets S or L, else the first false one, which is first. Under L alone
-   some of its literals are skipped. */
+/* The clause that is tried, as the step is worded: the first one that meets S or L, else the first false one, which is first. Under L, with
+   S or without, some of its literals are skipped. */
 static uint32_t PLAIN(select)(const struct PLAIN(sheet) *sheet, uint32_t first, MASK marks, MASK flipped, MASK *skipped)
 {
     for (uint32_t i = first; i < sheet->count; i++) {
         MASK positive = sheet->positive[i], negative = sheet->negative[i];
         if ((marks & positive) | (~marks & negative)) continue;
-        if (PLAIN(two_at_most)((positive | negative) & ~flipped)) return i;
         *skipped = PLAIN(opposed)(sheet, i, marks, flipped);
-        if (*skipped) return i;
+        if (*skipped || PLAIN(two_at_most)((positive | negative) & ~flipped)) return i;
     }
     return first;
 }

@@ -1,8 +1,7 @@
-// An independent implementation of paper 01 and of papers 1, 2, 4, 5 and 6 of 02, compared with the proved library on many inputs:
+// An independent implementation of paper 01 and of papers 1, 2, 4, 5, 6 and 7 of 02, compared with the proved library on many inputs:
 // long and short, valid and damaged, with few variables and up to 128, and for paper 2 tallies of the sheet, of other sheets, and of
 // any numbers. It shares no code with the crates. It prints how many answers of each kind agreed, and every disagreement.
 
-use std::cell::LazyCell;
 use std::collections::{BTreeSet, HashMap};
 
 #[repr(C)]
@@ -453,12 +452,16 @@ impl Codes {
 
 // ---- the search
 
-// What papers 4 and 6 of 02 may have a part in. At the first, step 3 of paper 01 would have gone on; at the second, its step 4 would
-// have taken another term; at the third, it would have tried one literal more.
-const PARTS: [&str; 3] = [
+// What papers 4, 6 and 7 of 02 may have a part in. At the first, step 3 of paper 01 would have gone on; at the second, its step 4
+// would have taken another term; at the third and fourth, it would have tried one literal more, and so would paper 6 at the fourth; at
+// the last, there is none to try. Since paper 7 no term but an empty one is ever dead: the flip that would leave it so is that of its
+// only unflipped literal, which is met, and the opposite of that one is not tried.
+const PARTS: [&str; 5] = [
     "a dead term after the first false one",
     "a term taken that is not the first false one",
-    "a literal not tried for its lone opposite",
+    "a literal of a longer term not tried for its lone opposite",
+    "one of a short term",
+    "no literal tried",
 ];
 
 // Parts notes which of them some call had.
@@ -466,7 +469,7 @@ struct Search<'a> {
     sheet: &'a Sheet,
     calls: u64,
     budget: u64,
-    parts: [bool; 3],
+    parts: [bool; PARTS.len()],
 }
 
 enum Seen {
@@ -504,15 +507,19 @@ impl Search<'_> {
     // The literals that step 4 tries, in order. The rest are the terms from the first false one on.
     fn tried(&mut self, rest: &[Vec<(u32, bool)>], marks: u128, flipped: u128) -> Vec<(u32, bool)> {
         let terms = &self.sheet.terms;
-        let lone = LazyCell::new(|| -> Vec<(u32, bool)> { terms.iter().filter_map(|t| alone(t, marks, flipped)).collect() });
-        let opposed = |l: &(u32, bool)| lone.contains(&(l.0, !l.1));
+        // the variables of literals that are alone in some term, with a minus and without
+        let mut lone = [0; 2];
+        terms.iter().filter_map(|t| alone(t, marks, flipped)).for_each(|(v, sign)| lone[sign as usize] |= only(v));
+        let opposed = |l: &(u32, bool)| has(lone[!l.1 as usize], l.0);
         let short = |t: &[(u32, bool)]| unflipped(t, flipped).count() <= 2;
         let loses = |t: &[(u32, bool)]| unflipped(t, flipped).any(opposed);
         let taken = rest.iter().filter(|t| !is_true(t, marks)).find(|t| short(t) || loses(t)).unwrap_or(&rest[0]);
-        let whole = short(taken);
+        let tried: Vec<(u32, bool)> = unflipped(taken, flipped).filter(|l| !opposed(l)).copied().collect();
         self.parts[1] |= *taken != rest[0];
-        self.parts[2] |= !whole && loses(taken);
-        unflipped(taken, flipped).filter(|l| whole || !opposed(l)).copied().collect()
+        self.parts[2] |= !short(taken) && loses(taken);
+        self.parts[3] |= short(taken) && loses(taken);
+        self.parts[4] |= tried.is_empty();
+        tried
     }
 }
 
@@ -548,11 +555,11 @@ fn advance(blocks: &[Block], digits: &mut [usize]) -> bool {
     false
 }
 
-// What a run went through: the variables of the sheet, what papers 4 and 6 of 02 had a part in, and the bits of all words tried.
+// What a run went through: the variables of the sheet, what papers 4, 6 and 7 of 02 had a part in, and the bits of all words tried.
 #[derive(Default)]
 struct Notes {
     n: u32,
-    parts: [bool; 3],
+    parts: [bool; PARTS.len()],
     words: u128,
 }
 
@@ -569,7 +576,7 @@ fn run(codes: &mut Codes, plan: (u32, u32), budget: u32, bytes: &[u8]) -> (Reply
     let blocks = blocks_of(codes, plan, sheet.n);
     let radius = blocks.iter().map(|b| b.1).sum();
     let mut digits = vec![0usize; blocks.len()];
-    let mut search = Search { sheet: &sheet, calls: 0, budget: budget as u64, parts: [false; 3] };
+    let mut search = Search { sheet: &sheet, calls: 0, budget: budget as u64, parts: [false; PARTS.len()] };
     let mut words = 0;
     let (verdict, marks, calls) = loop {
         let word = whole_word(&blocks, &digits);
@@ -718,42 +725,49 @@ fn sources_agree() -> bool {
 // The plan, the budget, the number of variables, the clauses, and the reply: verdict (1 clear, 2 none, 3 spent), marks and calls.
 type Worked = ((u32, u32), u32, u32, &'static [&'static [i32]], (u32, [u32; 4], u32));
 
-const WORKED: [Worked; 64] = [
-    // the runs among the settled examples of paper 01
+const WORKED: [Worked; 72] = [
+    // the runs among the settled examples of paper 01; paper 7 of 02 moves the counts where the radius is the block length
     ((3, 1), 1, 0, &[], (1, [0; 4], 1)),
     ((3, 1), 9, 0, &[&[]], (2, [0; 4], 1)),
     ((3, 1), 9, 3, &[&[1, 2], &[-1, -3], &[-3]], (1, [1, 0, 0, 0], 2)),
-    ((1, 1), 2, 1, &[&[1], &[-1]], (2, [0; 4], 2)),
-    ((1, 1), 1, 1, &[&[1], &[-1]], (3, [0; 4], 1)),
+    ((1, 1), 2, 1, &[&[1], &[-1]], (2, [0; 4], 1)),
+    ((1, 1), 1, 1, &[&[1], &[-1]], (2, [0; 4], 1)),
+    ((1, 1), 0, 1, &[&[1], &[-1]], (3, [0; 4], 0)),
     ((1, 0), 2, 1, &[&[1], &[-1]], (2, [0; 4], 2)),
     ((2, 1), 6, 2, &[&[1, 2], &[1, -2], &[-1, 2], &[-1, -2]], (2, [0; 4], 6)),
-    ((2, 2), 5, 2, &[&[1, 2], &[1, -2], &[-1, 2], &[-1, -2]], (2, [0; 4], 5)),
-    // paper 4 of 02: with variable 1 flipped the last clause is dead, and the second is not tried
-    ((3, 3), 2, 3, &[&[1], &[2, 3], &[-1]], (2, [0; 4], 2)),
-    ((3, 3), 1, 3, &[&[1], &[2, 3], &[-1]], (3, [0; 4], 1)),
+    ((2, 2), 5, 2, &[&[1, 2], &[1, -2], &[-1, 2], &[-1, -2]], (2, [0; 4], 3)),
+    ((2, 2), 3, 2, &[&[1, 2], &[1, -2], &[-1, 2], &[-1, -2]], (2, [0; 4], 3)),
+    ((2, 2), 2, 2, &[&[1, 2], &[1, -2], &[-1, 2], &[-1, -2]], (3, [0; 4], 2)),
+    // the sheet of paper 4 of 02: with variable 1 flipped the last clause would be dead, and since paper 7 that flip is not tried
+    ((3, 3), 2, 3, &[&[1], &[2, 3], &[-1]], (2, [0; 4], 1)),
+    ((3, 3), 1, 3, &[&[1], &[2, 3], &[-1]], (2, [0; 4], 1)),
     ((3, 3), 0, 3, &[&[1], &[2, 3], &[-1]], (3, [0; 4], 0)),
-    ((3, 3), 3, 3, &[&[1], &[2, 3], &[-1]], (2, [0; 4], 2)),
-    ((3, 3), u32::MAX, 3, &[&[1], &[2, 3], &[-1]], (2, [0; 4], 2)),
-    // its two balls, of words 0 and 1: the second starts with nothing flipped, and the last clause is false but not dead
-    ((3, 2), 7, 3, &[&[1], &[2, 3], &[-1]], (2, [0; 4], 7)),
-    ((3, 2), 6, 3, &[&[1], &[2, 3], &[-1]], (3, [0; 4], 6)),
-    // here the last clause dies in the second ball only
-    ((3, 2), 7, 3, &[&[-1], &[2, 3], &[1]], (2, [0; 4], 7)),
-    ((3, 2), 6, 3, &[&[-1], &[2, 3], &[1]], (3, [0; 4], 6)),
-    // with one flip, words 0 and 7, the flips run out where it is dead
-    ((3, 1), 9, 3, &[&[1], &[2, 3], &[-1]], (2, [0; 4], 4)),
-    // the first false clause has a flipped variable and others that are not; the last is dead
-    ((3, 3), 9, 3, &[&[1], &[-1, 2, 3], &[-1]], (2, [0; 4], 2)),
-    // the way back undoes the flip: the last clause is dead after variable 1 and true after 2
-    ((3, 3), 4, 3, &[&[1, 2], &[3], &[-1]], (1, [6, 0, 0, 0], 4)),
-    ((3, 3), 3, 3, &[&[1, 2], &[3], &[-1]], (3, [0; 4], 3)),
-    // the last clause is dead only when both of its variables are flipped, in one block or in the first of two
-    ((4, 4), 9, 4, &[&[1], &[2], &[3, 4], &[-1, -2]], (2, [0; 4], 3)),
-    ((2, 2), 9, 4, &[&[1], &[2], &[3, 4], &[-1, -2]], (2, [0; 4], 3)),
-    ((4, 4), 2, 4, &[&[1], &[2], &[3, 4], &[-1, -2]], (3, [0; 4], 2)),
+    ((3, 3), 3, 3, &[&[1], &[2, 3], &[-1]], (2, [0; 4], 1)),
+    ((3, 3), u32::MAX, 3, &[&[1], &[2, 3], &[-1]], (2, [0; 4], 1)),
+    // its two balls, of words 0 and 1: in the second (2 3) is tried, and after each flip -1 has the lone opposite
+    ((3, 2), 7, 3, &[&[1], &[2, 3], &[-1]], (2, [0; 4], 4)),
+    ((3, 2), 4, 3, &[&[1], &[2, 3], &[-1]], (2, [0; 4], 4)),
+    ((3, 2), 3, 3, &[&[1], &[2, 3], &[-1]], (3, [0; 4], 3)),
+    // here (2 3) is tried in the first ball only
+    ((3, 2), 7, 3, &[&[-1], &[2, 3], &[1]], (2, [0; 4], 4)),
+    ((3, 2), 4, 3, &[&[-1], &[2, 3], &[1]], (2, [0; 4], 4)),
+    ((3, 2), 3, 3, &[&[-1], &[2, 3], &[1]], (3, [0; 4], 3)),
+    // with one flip, words 0 and 7, none is tried in either
+    ((3, 1), 9, 3, &[&[1], &[2, 3], &[-1]], (2, [0; 4], 2)),
+    // the same with a clause that would be false with a flipped variable and others that are not
+    ((3, 3), 9, 3, &[&[1], &[-1, 2, 3], &[-1]], (2, [0; 4], 1)),
+    // 1 would leave the last clause dead, and 2 does not
+    ((3, 3), 4, 3, &[&[1, 2], &[3], &[-1]], (1, [6, 0, 0, 0], 3)),
+    ((3, 3), 3, 3, &[&[1, 2], &[3], &[-1]], (1, [6, 0, 0, 0], 3)),
+    ((3, 3), 2, 3, &[&[1, 2], &[3], &[-1]], (3, [0; 4], 2)),
+    // the last clause would be dead only with both of its variables flipped, in one block or in the first of two: 1 is tried, 2 not
+    ((4, 4), 9, 4, &[&[1], &[2], &[3, 4], &[-1, -2]], (2, [0; 4], 2)),
+    ((2, 2), 9, 4, &[&[1], &[2], &[3, 4], &[-1, -2]], (2, [0; 4], 2)),
+    ((4, 4), 2, 4, &[&[1], &[2], &[3, 4], &[-1, -2]], (2, [0; 4], 2)),
+    ((4, 4), 1, 4, &[&[1], &[2], &[3, 4], &[-1, -2]], (3, [0; 4], 1)),
     // the last variable has the highest bit
-    ((1, 1), 9, 32, &[&[32], &[1, 2], &[-32]], (2, [0; 4], 2)),
-    ((8, 8), 9, 32, &[&[32], &[1, 2], &[-32]], (2, [0; 4], 2)),
+    ((1, 1), 9, 32, &[&[32], &[1, 2], &[-32]], (2, [0; 4], 1)),
+    ((8, 8), 9, 32, &[&[32], &[1, 2], &[-32]], (2, [0; 4], 1)),
     // an empty clause is dead at once wherever it stands, in each ball
     ((2, 2), 9, 2, &[&[1], &[], &[2]], (2, [0; 4], 1)),
     ((2, 2), 1, 2, &[&[1], &[], &[2]], (2, [0; 4], 1)),
@@ -791,10 +805,11 @@ const WORKED: [Worked; 64] = [
     ((7, 7), 9, 128, &[&[32], &[-32, 64], &[-64, 96], &[-96, 128]], (1, [1 << 31; 4], 5)),
     ((9, 9), 9, 128, &[&[16], &[-48], &[80], &[-112]], (1, [1 << 15, 0, 1 << 15, 0], 3)),
     ((9, 9), 9, 128, &[&[-16], &[48], &[-80], &[112]], (1, [0, 1 << 15, 0, 1 << 15], 3)),
-    // the last clause is dead when all its variables are flipped, each in another word
-    ((6, 6), 9, 128, &[&[2], &[50], &[90], &[127], &[3, 4], &[-2, -50, -90, -127]], (2, [0; 4], 5)),
-    ((6, 6), 4, 128, &[&[2], &[50], &[90], &[127], &[3, 4], &[-2, -50, -90, -127]], (3, [0; 4], 4)),
-    ((1, 1), 9, 128, &[&[128], &[1, 2], &[-128]], (2, [0; 4], 2)),
+    // the last clause would be dead with all its variables flipped, each in another word: the last of them is not tried
+    ((6, 6), 9, 128, &[&[2], &[50], &[90], &[127], &[3, 4], &[-2, -50, -90, -127]], (2, [0; 4], 4)),
+    ((6, 6), 4, 128, &[&[2], &[50], &[90], &[127], &[3, 4], &[-2, -50, -90, -127]], (2, [0; 4], 4)),
+    ((6, 6), 3, 128, &[&[2], &[50], &[90], &[127], &[3, 4], &[-2, -50, -90, -127]], (3, [0; 4], 3)),
+    ((1, 1), 9, 128, &[&[128], &[1, 2], &[-128]], (2, [0; 4], 1)),
     // a word for each assignment, 2^128 of them, in their order as numbers
     ((1, 0), 300, 128, &[&[9]], (1, [256, 0, 0, 0], 257)),
     ((12, 0), 5000, 128, &[&[13]], (1, [4096, 0, 0, 0], 4097)),
@@ -803,24 +818,30 @@ const WORKED: [Worked; 64] = [
 ];
 
 const LONG: [i32; 8] = [-1, -2, -3, -4, -5, -6, 7, 8];
+const EIGHT: [i32; 8] = [-3, -4, -5, -6, -1, -7, -8, -9];
 
-// Paper 6 of 02. Where the radius is the block length there is one ball, around 0.
-const CHOSEN: [Worked; 57] = [
-    // rule S: the clause of three is passed over for one of two, and that is tried whole; 16 calls without the rule
-    ((5, 5), 9, 5, &[&[1, 2, 3], &[4, 5], &[4, -5], &[-4, 5], &[-4, -5]], (2, [0; 4], 5)),
-    ((5, 5), 5, 5, &[&[1, 2, 3], &[4, 5], &[4, -5], &[-4, 5], &[-4, -5]], (2, [0; 4], 5)),
-    ((5, 5), 4, 5, &[&[1, 2, 3], &[4, 5], &[4, -5], &[-4, 5], &[-4, -5]], (3, [0; 4], 4)),
-    // for one of one: 7 calls without the rule
-    ((4, 4), 9, 4, &[&[1, 2, 3], &[4], &[-4]], (2, [0; 4], 2)),
-    // flipped variables do not count: of (-1 5 6) two are left, and both die
-    ((6, 6), 9, 6, &[&[1], &[2, 3, 4], &[-1, 5, 6], &[-1, -5], &[-1, -6]], (2, [0; 4], 4)),
-    ((11, 11), 9, 11, &[&[1], &[2], &[3], &[4], &[5], &[6], &[9, 10, 11], &LONG, &[-1, -7], &[-1, -8]], (2, [0; 4], 9)),
+// Paper 6 of 02, with the counts of paper 7. Where the radius is the block length there is one ball, around 0.
+const CHOSEN: [Worked; 61] = [
+    // rule S: the clause of three is passed over for one of two; 10 calls without the rule
+    ((5, 5), 9, 5, &[&[1, 2, 3], &[4, 5], &[4, -5], &[-4, 5], &[-4, -5]], (2, [0; 4], 3)),
+    ((5, 5), 3, 5, &[&[1, 2, 3], &[4, 5], &[4, -5], &[-4, 5], &[-4, -5]], (2, [0; 4], 3)),
+    ((5, 5), 2, 5, &[&[1, 2, 3], &[4, 5], &[4, -5], &[-4, 5], &[-4, -5]], (3, [0; 4], 2)),
+    // for one of one, which meets L too; and for one that does not, where without the rule 1 would be tried first, in vain
+    ((4, 4), 9, 4, &[&[1, 2, 3], &[4], &[-4]], (2, [0; 4], 1)),
+    ((4, 4), 9, 4, &[&[1, 2, 3], &[4], &[-4, -1]], (1, [10, 0, 0, 0], 3)),
+    // flipped variables do not count: of (-1 5 6), and of the clause of eight, two are left
+    ((6, 6), 9, 6, &[&[1], &[2, 3, 4], &[-1, 5, 6], &[-5, -2]], (1, [21, 0, 0, 0], 4)),
+    ((11, 11), 9, 11, &[&[1], &[2], &[3], &[4], &[5], &[6], &[9, 10, 11], &LONG, &[-7, -9]], (1, [639, 0, 0, 0], 9)),
+    // here both of them have lone opposites
+    ((6, 6), 9, 6, &[&[1], &[2, 3, 4], &[-1, 5, 6], &[-1, -5], &[-1, -6]], (2, [0; 4], 2)),
+    ((11, 11), 9, 11, &[&[1], &[2], &[3], &[4], &[5], &[6], &[9, 10, 11], &LONG, &[-1, -7], &[-1, -8]], (2, [0; 4], 7)),
     // of (-1 5 6 7) three are left: the first false one is taken, and then 5 has a lone opposite
     ((8, 8), 9, 8, &[&[1], &[2, 3, 4, 8], &[-1, 5, 6, 7], &[-2, -5]], (1, [35, 0, 0, 0], 4)),
-    // of two short ones the first is taken, though the other would die at once
-    ((6, 6), 9, 6, &[&[1, 2, 3], &[4, 5], &[6], &[-6]], (2, [0; 4], 5)),
-    // it may be the fourth false one
-    ((10, 10), 9, 10, &[&[1, 2, 3], &[4, 5, 6], &[7, 8, 9], &[10], &[-10]], (2, [0; 4], 2)),
+    // of two short ones the first is taken, though the other has nothing to try
+    ((6, 6), 9, 6, &[&[1, 2, 3], &[4, 5], &[6], &[-6]], (2, [0; 4], 3)),
+    // it may be the fourth false one, with and without L
+    ((10, 10), 9, 10, &[&[1, 2, 3], &[4, 5, 6], &[7, 8, 9], &[10], &[-10]], (2, [0; 4], 1)),
+    ((10, 10), 9, 10, &[&[1, 2, 3], &[4, 5, 6], &[7, 8, 9], &[10], &[-10, -1]], (1, [586, 0, 0, 0], 5)),
     // a short one that is true is not taken
     ((5, 5), 9, 5, &[&[-1, -2], &[3, 4, 5]], (1, [4, 0, 0, 0], 2)),
     // rule L: a literal is not tried where a clause has nothing but its opposite, and the others are, in order
@@ -829,7 +850,7 @@ const CHOSEN: [Worked; 57] = [
     ((3, 3), 1, 3, &[&[1, 2, 3], &[-1]], (3, [0; 4], 1)),
     ((3, 3), 9, 3, &[&[1, 2, 3], &[-1], &[-3]], (1, [2, 0, 0, 0], 2)),
     ((3, 3), 9, 3, &[&[-2], &[1, 2, 3], &[-1]], (1, [4, 0, 0, 0], 2)),
-    ((4, 4), 9, 4, &[&[1, 2, 3], &[-3], &[-1, 4], &[-1, -4]], (1, [2, 0, 0, 0], 4)),
+    ((4, 4), 9, 4, &[&[1, 2, 3], &[-3], &[-1, 4], &[-1, -4]], (1, [2, 0, 0, 0], 3)),
     ((3, 3), 9, 3, &[&[1, 2, 3], &[-1], &[-1]], (1, [2, 0, 0, 0], 2)),
     ((4, 4), 9, 4, &[&[1, 2, 3, 4], &[-1], &[-2]], (1, [4, 0, 0, 0], 2)),
     // not so where it has nothing but the literal itself
@@ -841,24 +862,19 @@ const CHOSEN: [Worked; 57] = [
     ((3, 3), 1, 3, &[&[1, 2, 3], &[-1], &[-2], &[-3]], (2, [0; 4], 1)),
     ((3, 3), 0, 3, &[&[1, 2, 3], &[-1], &[-2], &[-3]], (3, [0; 4], 0)),
     ((6, 6), 9, 6, &[&[4, 5, 6], &[1, 2, 3], &[-1], &[-2], &[-3]], (2, [0; 4], 1)),
-    // nor in the first of two balls, around 0 and 7 or 0 and 1; around 1 two variables are left after a flip, and both are tried
+    // nor in the first of two balls, around 0 and 7 or 0 and 1; around 1 two variables are left after a flip, and neither is tried
     ((3, 1), 9, 3, &[&[1, 2, 3], &[-1], &[-2], &[-3]], (2, [0; 4], 3)),
     ((3, 1), 2, 3, &[&[1, 2, 3], &[-1], &[-2], &[-3]], (3, [0; 4], 2)),
-    ((3, 2), 9, 3, &[&[1, 2, 3], &[-1], &[-2], &[-3]], (2, [0; 4], 5)),
+    ((3, 2), 9, 3, &[&[1, 2, 3], &[-1], &[-2], &[-3]], (2, [0; 4], 3)),
     // nor in the second, around 7
     ((3, 1), 9, 3, &[&[-1, -2, -3], &[1], &[2], &[3]], (2, [0; 4], 3)),
     ((3, 1), 9, 3, &[&[-1, -2, -3], &[1], &[3]], (1, [5, 0, 0, 0], 4)),
-    // in sheet order: a clause by L before a short one, where S first would make 2 calls, and a short one before one by L, where L
-    // first would make 1
-    ((4, 4), 9, 4, &[&[1, 2, 3], &[4], &[-1], &[-4]], (2, [0; 4], 5)),
+    // in sheet order: a clause by L before a short one, and a short one before one by L; the other clause first would make 1 call
+    ((4, 4), 9, 4, &[&[1, 2, 3], &[4], &[-1], &[-4]], (2, [0; 4], 3)),
     ((5, 5), 9, 5, &[&[4, 5], &[1, 2, 3], &[-1], &[-2], &[-3]], (2, [0; 4], 3)),
     ((8, 8), 9, 8, &[&[6, 7, 8], &[4, 5], &[1, 2, 3], &[-1], &[-2], &[-3]], (2, [0; 4], 3)),
     // 1 is lone with both signs
-    ((3, 3), 9, 3, &[&[1, 2, 3], &[1], &[-1]], (2, [0; 4], 5)),
-    // a clause that meets both is tried whole
-    ((2, 2), 9, 2, &[&[1, 2], &[-1]], (1, [2, 0, 0, 0], 3)),
-    ((5, 5), 9, 5, &[&[3, 4, 5], &[1, 2], &[-1], &[-2]], (2, [0; 4], 3)),
-    ((3, 3), 9, 3, &[&[1], &[-1, 2, 3], &[-2]], (1, [5, 0, 0, 0], 4)),
+    ((3, 3), 9, 3, &[&[1, 2, 3], &[1], &[-1]], (2, [0; 4], 3)),
     // the opposite is lone when the other literal is flipped and unmet, not when it is met
     ((4, 4), 9, 4, &[&[1], &[2, 3, 4], &[-1, -2]], (1, [5, 0, 0, 0], 3)),
     ((4, 4), 9, 4, &[&[1], &[2, 3, 4], &[1, -2]], (1, [3, 0, 0, 0], 3)),
@@ -874,20 +890,97 @@ const CHOSEN: [Worked; 57] = [
     ((7, 7), 9, 7, &[&[1], &[5, 6, 7], &[-1, 2, 3, 4], &[-5, -2]], (1, [21, 0, 0, 0], 4)),
     // neither rule: the first false one
     ((6, 6), 9, 6, &[&[1, 2, 3], &[4, 5, 6], &[-1, -4]], (1, [17, 0, 0, 0], 3)),
-    // a dead clause goes before both rules
-    ((4, 4), 9, 4, &[&[1], &[2, 3, 4], &[-2], &[-1]], (2, [0; 4], 2)),
-    ((5, 5), 9, 5, &[&[1], &[4, 5], &[-1, 2, 3], &[-1]], (2, [0; 4], 2)),
+    // the first clause meets both rules and has nothing to try, whatever the others meet
+    ((4, 4), 9, 4, &[&[1], &[2, 3, 4], &[-2], &[-1]], (2, [0; 4], 1)),
+    ((5, 5), 9, 5, &[&[1], &[4, 5], &[-1, 2, 3], &[-1]], (2, [0; 4], 1)),
+    // an empty clause, which is dead, goes before both rules
+    ((3, 3), 9, 3, &[&[1, 2, 3], &[-1], &[]], (2, [0; 4], 1)),
+    ((3, 3), 9, 3, &[&[1, 2], &[], &[3]], (2, [0; 4], 1)),
     // with one flip left both rules hold: balls around 0 and 7, around 0, 7, 8 and 15, and around 0 and 1
     ((3, 1), 9, 3, &[&[1, 2, 3], &[-1]], (1, [2, 0, 0, 0], 2)),
     ((4, 1), 9, 4, &[&[1, 2, 3], &[4]], (1, [15, 0, 0, 0], 4)),
-    ((2, 1), 9, 2, &[&[1, 2], &[-1], &[-2]], (2, [0; 4], 5)),
+    ((2, 1), 9, 2, &[&[1, 2], &[-1], &[-2]], (2, [0; 4], 3)),
     // paper 5 of 02: variables at the same place of two words are two, and flips in three words leave -40 alone
     ((1, 1), 9, 128, &[&[33, 1, 65], &[-33]], (1, [1, 0, 0, 0], 2)),
     ((1, 1), 9, 128, &[&[1, 33, 65], &[-1]], (1, [0, 1, 0, 0], 2)),
     ((1, 1), 9, 128, &[&[1, 65, 97], &[-33]], (1, [1, 0, 0, 0], 2)),
     ((7, 7), 9, 128, &[&[128, 96, 64], &[-128], &[-96]], (1, [0, 1 << 31, 0, 0], 2)),
     ((8, 8), 9, 128, &[&[1], &[64], &[127], &[40, 5, 90], &[-1, -64, -127, -40]], (1, [17, 1 << 31, 0, 1 << 30], 5)),
-    ((9, 9), 9, 128, &[&[33, 65, 97], &[1, 128], &[-1], &[-128]], (2, [0; 4], 3)),
+    ((9, 9), 9, 128, &[&[33, 65, 97], &[1, 128], &[-1], &[-128]], (2, [0; 4], 1)),
+    ((9, 9), 9, 128, &[&[33, 65, 97], &[1, 128], &[-1, -33]], (1, [1, 0, 1, 0], 3)),
+];
+
+// Paper 7 of 02: the clause taken meets S, and its literals with lone opposites are not tried.
+const SPARED: [Worked; 54] = [
+    // one of two is tried, the second or the first
+    ((2, 2), 9, 2, &[&[1, 2], &[-1]], (1, [2, 0, 0, 0], 2)),
+    ((2, 2), 2, 2, &[&[1, 2], &[-1]], (1, [2, 0, 0, 0], 2)),
+    ((2, 2), 1, 2, &[&[1, 2], &[-1]], (3, [0; 4], 1)),
+    ((2, 2), 9, 2, &[&[-1], &[1, 2]], (1, [2, 0, 0, 0], 2)),
+    ((2, 2), 9, 2, &[&[1, 2], &[-2]], (1, [1, 0, 0, 0], 2)),
+    ((2, 2), 9, 2, &[&[-2], &[1, 2]], (1, [1, 0, 0, 0], 2)),
+    // also where that one fails: after 1 has been flipped 3 has a lone opposite
+    ((3, 3), 9, 3, &[&[1, 2], &[-2], &[-1, 3], &[-1, -3]], (2, [0; 4], 2)),
+    ((3, 3), 9, 3, &[&[2, 1], &[-2], &[-1, 3], &[-1, -3]], (2, [0; 4], 2)),
+    // neither of two, and no call is made; in the fourth row only below the first of two flips
+    ((2, 2), 9, 2, &[&[1, 2], &[-1], &[-2]], (2, [0; 4], 1)),
+    ((2, 2), 1, 2, &[&[1, 2], &[-1], &[-2]], (2, [0; 4], 1)),
+    ((2, 2), 0, 2, &[&[1, 2], &[-1], &[-2]], (3, [0; 4], 0)),
+    ((4, 4), 9, 4, &[&[3, 4], &[1, 2], &[-1, -3], &[-2, -3]], (1, [9, 0, 0, 0], 4)),
+    ((5, 5), 9, 5, &[&[3, 4, 5], &[1, 2], &[-1], &[-2]], (2, [0; 4], 1)),
+    ((3, 3), 9, 3, &[&[3], &[1, 2], &[-1], &[-2, -3]], (2, [0; 4], 2)),
+    // nor one of one, be it alone in its clause or left there: in the last row the fourth of a chain
+    ((2, 2), 9, 2, &[&[-1], &[1], &[2]], (2, [0; 4], 1)),
+    ((2, 2), 9, 2, &[&[1], &[-1, 2], &[-1, -2]], (2, [0; 4], 2)),
+    ((2, 2), 9, 2, &[&[1], &[-1, -2], &[-1, 2]], (2, [0; 4], 2)),
+    ((4, 4), 9, 4, &[&[1], &[-1, 2], &[-2, 3], &[-3, 4], &[-4, -1]], (2, [0; 4], 4)),
+    // two are left of three, and of eight
+    ((3, 3), 9, 3, &[&[1], &[-1, 2, 3], &[-2]], (1, [5, 0, 0, 0], 3)),
+    ((3, 3), 9, 3, &[&[1], &[2, -1, 3], &[-2]], (1, [5, 0, 0, 0], 3)),
+    ((3, 3), 9, 3, &[&[1], &[2, 3, -1], &[-2]], (1, [5, 0, 0, 0], 3)),
+    ((8, 8), 9, 8, &[&[1], &[2], &[3], &[4], &[5], &[6], &LONG, &[-7]], (1, [191, 0, 0, 0], 8)),
+    ((9, 9), 9, 9, &[&[1], &[2], &[3], &[4], &[5], &[6], &LONG, &[-8], &[-7, 9], &[-7, -9]], (2, [0; 4], 8)),
+    // the clause with the lone opposite has one literal, or two or eight of which one is left
+    ((3, 3), 9, 3, &[&[3], &[1, 2], &[-1]], (1, [6, 0, 0, 0], 3)),
+    ((3, 3), 9, 3, &[&[3], &[1, 2], &[-3, -1]], (1, [6, 0, 0, 0], 3)),
+    ((3, 3), 9, 3, &[&[3], &[1, 2], &[-1, -3]], (1, [6, 0, 0, 0], 3)),
+    ((9, 9), 9, 9, &[&[3], &[4], &[5], &[6], &[7], &[8], &[9], &[1, 2], &EIGHT], (1, [510, 0, 0, 0], 9)),
+    // it has a flipped literal that is met, and its other one is not lone: 1 is tried
+    ((3, 3), 9, 3, &[&[3], &[1, 2], &[3, -1]], (1, [5, 0, 0, 0], 3)),
+    ((3, 3), 9, 3, &[&[3], &[1, 2], &[-1, 3]], (1, [5, 0, 0, 0], 3)),
+    ((4, 4), 9, 4, &[&[3], &[4], &[1, 2], &[-3, 4, -1]], (1, [13, 0, 0, 0], 4)),
+    ((4, 4), 9, 4, &[&[3], &[4], &[1, 2], &[3, -4, -1]], (1, [13, 0, 0, 0], 4)),
+    ((4, 4), 9, 4, &[&[3], &[4], &[1, 2], &[-1, -3, 4]], (1, [13, 0, 0, 0], 4)),
+    ((4, 4), 9, 4, &[&[3], &[4], &[1, 2], &[3, 4, -1]], (1, [13, 0, 0, 0], 4)),
+    ((3, 3), 9, 3, &[&[1], &[2], &[1, -2], &[-1, -2, 3]], (1, [7, 0, 0, 0], 4)),
+    // all its literals are flipped, one is met, and none is lone, though the opposite stands in the clause taken or in one passed over
+    ((2, 2), 9, 2, &[&[1], &[-1, 2]], (1, [3, 0, 0, 0], 3)),
+    ((3, 3), 9, 3, &[&[1], &[2], &[1, -2], &[-1, 3]], (1, [7, 0, 0, 0], 4)),
+    ((3, 3), 9, 5, &[&[-3, -2, 1], &[2, 1, 5, -3, -4], &[5], &[4, -5, 3, 2], &[3]], (1, [20, 0, 0, 0], 3)),
+    // it has another unflipped literal, unmet or met, and the first try finds the model or leads to it
+    ((3, 3), 9, 3, &[&[1, 2], &[-1, 3]], (1, [5, 0, 0, 0], 3)),
+    ((3, 3), 9, 3, &[&[1, 2], &[-1, -3]], (1, [1, 0, 0, 0], 2)),
+    // it has the literal itself and not the opposite, or there is one clause for each
+    ((2, 2), 9, 2, &[&[1, 2], &[1]], (1, [1, 0, 0, 0], 2)),
+    ((3, 3), 9, 3, &[&[3], &[1, 2], &[-3, 1]], (1, [5, 0, 0, 0], 3)),
+    ((2, 2), 9, 2, &[&[1, 2], &[1], &[-1]], (2, [0; 4], 2)),
+    // there are two such clauses, or the clause taken stands there twice
+    ((2, 2), 9, 2, &[&[1, 2], &[-1], &[-1]], (1, [2, 0, 0, 0], 2)),
+    ((2, 2), 9, 2, &[&[1, 2], &[1, 2], &[-1]], (1, [2, 0, 0, 0], 2)),
+    // 1 is not tried, and it is not flipped either: (1 6 7 8) meets L by it
+    ((8, 8), 9, 8, &[&[1, 2], &[-1], &[3, 4, 5], &[1, 6, 7, 8], &[-3, -6]], (1, [42, 0, 0, 0], 4)),
+    // which clause is taken is as in paper 6: the first of those that meet a rule, whether it meets both or one and however few
+    // literals the others have to try
+    ((4, 4), 9, 4, &[&[1, 2], &[3, 4], &[-3], &[-4]], (2, [0; 4], 3)),
+    ((3, 3), 9, 3, &[&[1, 2], &[3], &[-1], &[-3]], (2, [0; 4], 2)),
+    ((5, 5), 9, 5, &[&[1, 2, 3], &[4, 5], &[-1], &[-4], &[-5]], (2, [0; 4], 3)),
+    ((5, 5), 9, 5, &[&[4, 5], &[1, 2, 3], &[-4], &[-1], &[-2], &[-3]], (2, [0; 4], 2)),
+    // with one flip, in balls around 0 and 1 or 0 and 7: in the second of them also literals with a minus have lone opposites
+    ((2, 1), 9, 2, &[&[1, 2], &[-1]], (1, [2, 0, 0, 0], 2)),
+    ((2, 1), 9, 2, &[&[-1, 2], &[1], &[-2]], (2, [0; 4], 3)),
+    ((3, 1), 9, 3, &[&[-1, -2], &[1], &[2, 3]], (1, [5, 0, 0, 0], 4)),
+    ((3, 1), 9, 3, &[&[-2, -1], &[1], &[2, 3]], (1, [5, 0, 0, 0], 4)),
+    ((3, 1), 9, 3, &[&[-1, -2], &[1], &[2], &[2, 3]], (2, [0; 4], 3)),
 ];
 
 // The library and the search above both give the reply that was worked out by hand.
@@ -899,7 +992,7 @@ fn replies(codes: &mut Codes, plan: (u32, u32), budget: u32, bytes: &[u8], worke
 
 fn counts_agree(codes: &mut Codes) -> bool {
     let mut agrees = |(plan, budget, n, clauses, worked): &Worked| replies(codes, *plan, *budget, &written(*n, clauses), *worked);
-    WORKED.iter().chain(&CHOSEN).all(&mut agrees)
+    WORKED.iter().chain(&CHOSEN).chain(&SPARED).all(&mut agrees)
 }
 
 // Both ends of each word.
@@ -919,23 +1012,32 @@ fn among(kept_counts: [usize; 3], clauses: &[&[i32]], last: &[i32]) -> Vec<u8> {
     written(128, &all)
 }
 
-// Clauses of one end each, one that is false until 48 or 80 is flipped, and one that holds what the first ones pay: it dies with the
-// last of their flips, which are in up to four words.
+// Clauses of one end each, one that is false until 48 or 80 is flipped, and one that holds what the first ones pay: it would die with
+// the last of their flips, which are in up to four words, and that one is not tried.
 fn dying(length: usize, kept_counts: [usize; 3]) -> Vec<u8> {
     let clauses: Vec<&[i32]> = ENDS[..length].chunks(1).chain([&[48, 80][..]]).collect();
     among(kept_counts, &clauses, &HELD[..length])
 }
 
-// Wherever in a sheet of up to 1,024 clauses the first false one and the dead one stand, the call after the last flip says no. An
-// empty one, length 0, is dead at the first call. In the last nine rounds one of each length is the last of 1,024.
+// Wherever in a sheet of up to 1,024 clauses the first false one and the last one stand, the call before the last flip says no. An
+// empty one is dead at the first call. In the last nine rounds one of each length is the last of 1,024.
 fn places_agree(codes: &mut Codes) -> bool {
     (0..=1030).all(|round: usize| {
         let length = round % 9;
         let room = 1022 - length;
         let k = round.min(room);
         let sheets = [[0, k, 0], [k, 0, 0], [0, k, room - k]].map(|kept_counts| dying(length, kept_counts));
-        sheets.iter().all(|bytes| replies(codes, (1, 1), 99, bytes, (2, [0; 4], length as u32 + 1)))
+        let empty = among([0, round.min(1022), 0], &[&[48, 80]], &[]);
+        let mut none = |bytes: &[u8], calls| replies(codes, (1, 1), 99, bytes, (2, [0; 4], calls));
+        sheets.iter().all(|bytes| none(bytes, length.max(1) as u32)) && none(&empty, 1)
     })
+}
+
+// The sheet, and the one with its clauses the other way round.
+fn both_ways(bytes: Vec<u8>) -> [Vec<u8>; 2] {
+    let mut backward = read(&bytes).expect("a sheet");
+    backward.terms.reverse();
+    [bytes, write(&backward)]
 }
 
 // A clause of three, clauses of one end each, which are flipped first, and one that is then left with the opposite of 48 alone: in
@@ -943,16 +1045,22 @@ fn places_agree(codes: &mut Codes) -> bool {
 fn lone_at(flips: usize, kept_counts: [usize; 3]) -> [Vec<u8>; 2] {
     let units: Vec<&[i32]> = ENDS[..flips].chunks(1).collect();
     let last = [&HELD[..flips], &[-48]].concat();
-    let clauses = [&[&[48, 80, 112][..]], &units[..]].concat();
-    let bytes = among(kept_counts, &clauses, &last);
-    let mut backward = read(&bytes).expect("a sheet");
-    backward.terms.reverse();
-    [bytes, write(&backward)]
+    both_ways(among(kept_counts, &[&[&[48, 80, 112][..]], &units[..]].concat(), &last))
 }
 
-// The clause of three is passed over, and after the flip for the last one the second is dead.
-fn short_at(kept_counts: [usize; 3]) -> Vec<u8> {
-    among(kept_counts, &[&[48, 80, 112], &[-1]], &[1])
+// Clauses of one end each, a short one, and one that is left with the opposite of 48 alone when the ends are flipped: 80 is tried.
+// The other way round the short one is taken first, and 48 is tried unless its opposite is lone from the start: below it the last end
+// is not tried, and below 80 all are.
+fn spared_at(flips: usize, kept_counts: [usize; 3]) -> [Vec<u8>; 2] {
+    let units: Vec<&[i32]> = ENDS[..flips].chunks(1).collect();
+    let last = [&HELD[..flips], &[-48]].concat();
+    both_ways(among(kept_counts, &[&units[..], &[&[48, 80][..]]].concat(), &last))
+}
+
+// The clause of three is passed over for the last one, whose flip leaves the second with the opposite of 48 alone; and for one with
+// nothing to try.
+fn short_at(kept_counts: [usize; 3]) -> [Vec<u8>; 2] {
+    [&[-1, -48][..], &[-1]].map(|second| among(kept_counts, &[&[48, 80, 112], second], &[1]))
 }
 
 // Wherever in a sheet of up to 1,024 clauses the one with the lone opposite stands, and the short one, it is seen.
@@ -964,18 +1072,47 @@ fn choices_agree(codes: &mut Codes) -> bool {
             [[0, k, 0], [k, 0, 0], [0, k, room - k]][round % 3]
         };
         let marks = ALONE[..flips].iter().fold(only(80), |marks, alone| marks | join(*alone));
-        let clear = (1, split(marks), flips as u32 + 2);
+        let clear = |calls: usize| (1, split(marks), calls as u32);
         let mut says = |bytes: &[u8], worked| replies(codes, (1, 1), 99, bytes, worked);
         let lone = lone_at(flips, spots(1022 - flips));
-        lone.iter().all(|bytes| says(bytes, clear)) && says(&short_at(spots(1021)), (2, [0; 4], 2))
+        let [forward, backward] = spared_at(flips, spots(1022 - flips));
+        let [short, neither] = short_at(spots(1021));
+        lone.iter().all(|bytes| says(bytes, clear(flips + 2)))
+            && says(&forward, clear(flips + 2))
+            && says(&backward, clear(2 * flips + 2))
+            && says(&short, (1, [1, 0, 1 << 15, 0], 3))
+            && says(&neither, (2, [0; 4], 1))
     })
 }
 
-// However many false clauses are passed over, the short one behind them is taken.
+// At each place among 1,024 clauses the one with the lone opposite is seen, and so is the other, of two literals or of three, where 48
+// is then not tried. So are, behind one of three, the short one, whose flip leaves the next with the opposite of 48 alone, and the one
+// that meets L, whose flip leaves another with the opposite of 1 alone.
+fn seats_agree(codes: &mut Codes) -> bool {
+    let mut says = |seats: &[(usize, &[i32])], worked| {
+        let mut clauses: Vec<&[i32]> = kept(1024).collect();
+        seats.iter().for_each(|(seat, clause)| clauses[*seat] = clause);
+        replies(codes, (1, 1), 99, &written(128, &clauses), worked)
+    };
+    (0..1024).all(|seat: usize| {
+        let mut lone = |taken: &[i32]| says(&[(seat, &[-48]), ((seat + 512) % 1024, taken)], (1, [0, 0, 1 << 15, 0], 2));
+        lone(&[48, 80]) && lone(&[48, 80, 112])
+    }) && (1..1024).all(|seat: usize| {
+        let [next, second] = [seat, seat + 1].map(|before| before % 1023 + 1);
+        says(&[(0, &[48, 80, 112]), (seat, &[1]), (next, &[-1, -48])], (1, [1, 0, 1 << 15, 0], 3))
+            && says(&[(0, &[1, 33, 65]), (seat, &[48, 80, 112]), (next, &[-48]), (second, &[-80, -1])], (1, [0, 1, 1 << 15, 0], 3))
+    })
+}
+
+// However many false clauses are passed over, the short one behind them is taken, whether it has nothing to try or leaves them with
+// the lone opposite of 48.
 fn passed_agree(codes: &mut Codes) -> bool {
     [1, 2, 255, 256, 1022].iter().all(|k| {
-        let clauses = [vec![&[48, 80, 112][..]; *k], vec![&[1], &[-1]]].concat();
-        replies(codes, (1, 1), 99, &written(128, &clauses), (2, [0; 4], 2))
+        let mut says = |last: &[i32], worked| {
+            let clauses = [vec![&[48, 80, 112][..]; *k], vec![&[1], last]].concat();
+            replies(codes, (1, 1), 99, &written(128, &clauses), worked)
+        };
+        says(&[-1], (2, [0; 4], 1)) && says(&[-1, -48], (1, [1, 0, 1 << 15, 0], 3))
     })
 }
 
@@ -1049,15 +1186,17 @@ fn ends_agree(codes: &mut Codes) -> bool {
         says(&[&[v]], 2, (1, alone, 2))
             && says(&[&[v]], 1, (3, [0; 4], 1))
             && says(&[&[-v]], 1, (1, [0; 4], 1))
-            && says(&[&[v], &[-v]], 2, (2, [0; 4], 2))
-            && says(&[&[-v], &[v]], 2, (2, [0; 4], 2))
-            && says(&[&[-v], &[v]], 1, (3, [0; 4], 1))
+            && says(&[&[v], &[-v]], 2, (2, [0; 4], 1))
+            && says(&[&[-v], &[v]], 2, (2, [0; 4], 1))
+            && says(&[&[-v], &[v]], 1, (2, [0; 4], 1))
+            && says(&[&[-v], &[v]], 0, (3, [0; 4], 0))
     };
     let mut end = |v: i32, alone| [(1, 1), (5, 5), (12, 12)].iter().all(|p| all(128, *p, v, alone) && all(v as u32, *p, v, alone));
     ENDS.iter().zip(ALONE).all(|(v, alone)| end(*v, alone))
 }
 
-// No assignment meets the four clauses of two variables next to each other. From each code word they need 5 calls, as in paper 01.
+// No assignment meets the four clauses of two variables next to each other. From each code word they need 3 calls: after one flip the
+// other variable is left with both signs.
 // The code of length 12 and radius 11 has the words 0 and 1, and the last block, of 8 variables, has one: 2^10 whole words.
 fn cores_agree(codes: &mut Codes) -> bool {
     [(32, 33), (64, 65), (96, 97), (127, 128)].iter().all(|(u, v)| {
@@ -1066,7 +1205,68 @@ fn cores_agree(codes: &mut Codes) -> bool {
             replies(codes, plan, calls, &bytes, (2, [0; 4], calls))
                 && replies(codes, plan, calls - 1, &bytes, (3, [0; 4], calls - 1))
         };
-        none((1, 1), 5) && none((12, 12), 5) && none((12, 11), 5120)
+        none((1, 1), 3) && none((12, 12), 3) && none((12, 11), 3072)
+    })
+}
+
+// The three variables are ends of words. Of (v w), taken at once or after u, v has a lone opposite, or would have it if one variable
+// or flip were taken for another.
+fn spares_agree(codes: &mut Codes) -> bool {
+    let paid = |set: &[i32]| split(set.iter().fold(0, |marks, v| marks | only(*v as u32)));
+    let mut all = |plan: (u32, u32), [u, v, w]: [i32; 3]| {
+        let mut says = |clauses: &[&[i32]], worked| replies(codes, plan, 99, &written(128, clauses), worked);
+        says(&[&[v, w], &[-v]], (1, paid(&[w]), 2))
+            && says(&[&[w, v], &[-v], &[-w, 48], &[-w, -48]], (2, [0; 4], 2))
+            && says(&[&[v, w], &[-v], &[-w]], (2, [0; 4], 1))
+            && says(&[&[v, w], &[-u]], (1, paid(&[v]), 2))
+            && says(&[&[u], &[v, w], &[-u, -v]], (1, paid(&[u, w]), 3))
+            && says(&[&[u], &[v, w], &[u, -v]], (1, paid(&[u, v]), 3))
+            && says(&[&[u], &[v], &[-u, -v]], (2, [0; 4], 2))
+    };
+    let triples = ENDS.iter().flat_map(|u| ENDS.iter().flat_map(move |v| ENDS.iter().map(move |w| [*u, *v, *w])));
+    let mut apart = triples.filter(|[u, v, w]| u != v && v != w && w != u);
+    apart.all(|ends| [(1, 1), (5, 5), (12, 12)].iter().all(|plan| all(*plan, ends)))
+}
+
+// No assignment meets (-u -v)(u)(v). From a word that pays both nothing is tried, and from any other one literal is and after it none.
+// Of 4,096 words half pay both where u and v are in one of the first eleven blocks, which have the words 0 and 2,047, a quarter where
+// they are in two, and none where one is 128, which the words 0 and 7 of the last block do not pay.
+fn holds_agree(codes: &mut Codes) -> bool {
+    let block = |v: i32| (v - 1) / 11;
+    let mut none = |u: i32, v: i32| {
+        let both = match v {
+            128 => 0,
+            _ if block(u) == block(v) => 2048,
+            _ => 1024,
+        };
+        replies(codes, (11, 5), 9000, &written(128, &[&[-u, -v], &[u], &[v]]), (2, [0; 4], 2 * 4096 - both))
+    };
+    ENDS.iter().all(|u| ENDS.iter().filter(|v| *v > u).all(|v| none(*u, *v)))
+}
+
+// A clause of up to eight ends, each in one of three ways: flipped and unmet, with a lone opposite, or neither. The clauses of one end
+// before it are flipped first, and then it is taken unless it has three or more left and meets no rule. With all its literals flipped
+// it would be dead, and the last of the ends is not tried. No assignment meets the last four clauses, which need 3 calls.
+fn ways_agree(codes: &mut Codes) -> bool {
+    let mut none = |ways: &[u32]| {
+        let of = |way: u32, literals: [i32; 8]| -> Vec<i32> {
+            literals.into_iter().zip(ways).filter(|(_, w)| **w == way).map(|(l, _)| l).collect()
+        };
+        let [flips, opposites] = [of(0, ENDS), of(1, HELD)];
+        let clause: Vec<i32> = ways.iter().enumerate().map(|(i, way)| if *way == 0 { HELD[i] } else { ENDS[i] }).collect();
+        let core: [&[i32]; 4] = [&[48, 80], &[48, -80], &[-48, 80], &[-48, -80]];
+        let clauses: Vec<&[i32]> = flips.chunks(1).chain([&clause[..]]).chain(opposites.chunks(1)).chain(core).collect();
+        let [gone, spared] = [flips.len(), opposites.len()].map(|count| count as u32);
+        let left = ways.len() as u32 - gone;
+        let calls = match left {
+            0 => gone,
+            3.. if spared == 0 => gone + 3,
+            _ => gone + 1 + 3 * (left - spared),
+        };
+        replies(codes, (1, 1), 99, &written(128, &clauses), (2, [0; 4], calls))
+    };
+    (1..=8).all(|length| {
+        (0..3u32.pow(length)).all(|code| none(&(0..length).map(|i| code / 3u32.pow(i) % 3).collect::<Vec<u32>>()))
     })
 }
 
@@ -1416,7 +1616,8 @@ fn random_sheet(r: &mut Random) -> Sheet {
     Sheet { batch: r.next() as u32, n, terms }
 }
 
-// Few variables in many short terms, none of them empty: flips that make one term true often leave a later one dead.
+// Few variables in many short terms, none of them empty: flips that make one term true often leave a later one with one literal, and
+// the next flip would leave it dead.
 fn dense_sheet(r: &mut Random, n: u32, named: &[u32]) -> Sheet {
     let few = named.len() as u64;
     let longest = r.range(2, 4).min(few);
@@ -1614,13 +1815,13 @@ const STREAMS: [&str; 5] = ["inputs", "dense sheets", "spread sheets", "forced s
 
 // How many answers of each kind there were, how often each saying applied, and how many disagreements. Kinds, large and parts are
 // numbers of each stream: all answers, those for more than 32 variables, and the clear and none ones with each of the parts of
-// papers 4 and 6. For each of the four words of an assignment, tried counts the runs with a code word that has bits there, and paid
+// papers 4, 6 and 7. For each of the four words of an assignment, tried counts the runs with a code word that has bits there, and paid
 // such clear answers. Trials are the clear and none answers that all assignments were tried for.
 #[derive(Default)]
 struct Totals {
     kinds: [[u64; 4]; 5],
     large: [[u64; 4]; 5],
-    parts: [[u64; 3]; 5],
+    parts: [[u64; PARTS.len()]; 5],
     tried: [u64; 4],
     paid: [u64; 4],
     trials: [u64; 2],
@@ -1647,14 +1848,18 @@ impl Totals {
     fn fixed(&mut self, codes: &mut Codes) {
         self.check(sources_agree(), || "an example of the sources differs".into());
         self.check(counts_agree(codes), || "a fixed run differs".into());
-        self.check(places_agree(codes), || "a run with a dead term at some place differs".into());
+        self.check(places_agree(codes), || "a run with a term at some place that is dead, or would be, differs".into());
         self.check(choices_agree(codes), || "a run with a short term or a lone opposite at some place differs".into());
+        self.check(seats_agree(codes), || "a run with a lone opposite at some place of 1,024 differs".into());
         self.check(passed_agree(codes), || "a run with many false terms passed over differs".into());
         self.check(repeats_agree(codes), || "a run with a repeated term differs".into());
         self.check(limits_agree(codes), || "the limit on the number of variables differs".into());
         self.check(variables_agree(), || "the reading of a variable differs".into());
         self.check(ends_agree(codes), || "a run with a literal at the end of a word differs".into());
         self.check(cores_agree(codes), || "a run without a model across two words differs".into());
+        self.check(spares_agree(codes), || "a run with a lone opposite at the end of a word differs".into());
+        self.check(ways_agree(codes), || "a run with some literals of a term flipped and some spared differs".into());
+        self.check(holds_agree(codes), || "a run with two lone opposites at the ends of words differs".into());
         self.check(forced_agree(codes), || "a run with one model in four words differs".into());
         self.check(clauses_agree(), || "how a fixed term stands differs".into());
         self.check(pairs_agree(), || "a fixed pair differs".into());
@@ -1682,7 +1887,7 @@ impl Totals {
         self.compare(r, codes, 0, (plan, budget), bytes)
     }
 
-    // With a radius above 1 many a call has flipped all variables of some term.
+    // With a radius above 1 many a call has flipped all variables of some term but one.
     fn dense(&mut self, r: &mut Random, codes: &mut Codes) {
         let b = r.range(2, 8);
         let plan = (b as u32, r.range(2, b) as u32);
@@ -1756,7 +1961,7 @@ impl Totals {
         self.kinds[stream][verdict] += 1;
         self.large[stream][verdict] += (notes.n > 32) as u64;
         if verdict == 1 || verdict == 2 {
-            (0..3).for_each(|i| self.parts[stream][i] += notes.parts[i] as u64);
+            (0..PARTS.len()).for_each(|i| self.parts[stream][i] += notes.parts[i] as u64);
         }
         self.numbers[reply.number as usize] += 1;
         let tried = split(notes.words);

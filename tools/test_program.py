@@ -1,7 +1,7 @@
 #!/usr/bin/env python3
 """Tests of the built program `clearing`, byte by byte of what it reads and prints: every kind of line, every refusal that it
 can print with its place, the order of refusals, variables in every word of an assignment, and which clauses and literals are
-tried. The lines are worked out by hand from paper 01 and papers 4, 5 and 6 of 02. Then `tools/sheet solve` and `run.sh` over
+tried. The lines are worked out by hand from paper 01 and papers 4 to 7 of 02. Then `tools/sheet solve` and `run.sh` over
 the same program."""
 import os
 import subprocess
@@ -18,7 +18,7 @@ CLAUSES = [0x40000002, 2, 4, 0x40000002, 3, 7, 0x40000001, 7]
 OPPOSITES = [0xC0000000, 0xC0000007, 0x80000001, 0x40000001, 2, 0x40000001, 3]
 # (1 2)(1 -2)(-1 2)(-1 -2)
 ALL_FOUR = [0xC000FFFF, 0xC000FFFF, 0x80000002] + [0x40000002, 2, 4, 0x40000002, 2, 5, 0x40000002, 3, 4, 0x40000002, 3, 5]
-# (1)(2 3)(-1): the last clause is dead after one flip
+# (1)(2 3)(-1): a flip of 1 would make the last clause dead
 LATER_DEAD = [0xC0000000, 0xC0000004, 0x80000003, 0x40000001, 2, 0x40000002, 4, 6, 0x40000001, 3]
 # the variables at both ends of each word, and the marks where one of them alone is paid; 127 is the last one of n 127
 ENDS = [1, 32, 33, 64, 65, 96, 97, 128]
@@ -43,6 +43,11 @@ def units(n, literals):
     return sheet(n, *([l] for l in literals))
 
 
+def paid(*variables):
+    """The marks where these variables alone are paid."""
+    return ' '.join(str(sum(1 << (v - 1) % 32 for v in variables if (v - 1) // 32 == word)) for word in range(4))
+
+
 def printed(data):
     ran = subprocess.run([PROGRAM], input=data, capture_output=True)
     return ran.returncode, ran.stdout.decode(), ran.stderr.decode()
@@ -64,21 +69,28 @@ class Program(Lines):
 
     def test_none(self):
         self.prints_for([3, 1, 9], [0xC0000000, 0xC0000000, 0x80000000, 0x40000000], 'batch 0 none calls 1 marks 0 0 0 0')
-        self.prints_for([1, 1, 2], OPPOSITES, 'batch 7 none calls 2 marks 0 0 0 0')
+        for budget in (1, 2):
+            self.prints_for([1, 1, budget], OPPOSITES, 'batch 7 none calls 1 marks 0 0 0 0')
         self.prints_for([1, 0, 2], OPPOSITES, 'batch 7 none calls 2 marks 0 0 0 0')
         self.prints_for([2, 1, 6], ALL_FOUR, 'batch 4294967295 none calls 6 marks 0 0 0 0')
-        self.prints_for([2, 2, 5], ALL_FOUR, 'batch 4294967295 none calls 5 marks 0 0 0 0')
+        for budget in (3, 4, 5):
+            self.prints_for([2, 2, budget], ALL_FOUR, 'batch 4294967295 none calls 3 marks 0 0 0 0')
 
     def test_spent(self):
-        self.prints_for([1, 1, 1], OPPOSITES, 'batch 7 spent calls 1 marks 0 0 0 0')
-        self.prints_for([2, 2, 4], ALL_FOUR, 'batch 4294967295 spent calls 4 marks 0 0 0 0')
+        self.prints_for([1, 1, 0], OPPOSITES, 'batch 7 spent calls 0 marks 0 0 0 0')
+        self.prints_for([1, 0, 1], OPPOSITES, 'batch 7 spent calls 1 marks 0 0 0 0')
+        self.prints_for([2, 1, 5], ALL_FOUR, 'batch 4294967295 spent calls 5 marks 0 0 0 0')
+        self.prints_for([2, 2, 2], ALL_FOUR, 'batch 4294967295 spent calls 2 marks 0 0 0 0')
         self.prints_for([3, 1, 0], HEAD + CLAUSES, 'batch 70000 spent calls 0 marks 0 0 0 0')
 
     def test_dead(self):
-        self.prints_for([3, 3, 2], LATER_DEAD, 'batch 4 none calls 2 marks 0 0 0 0')
-        self.prints_for([3, 3, 1], LATER_DEAD, 'batch 4 spent calls 1 marks 0 0 0 0')
-        # with an empty clause after the first false one there is nothing to try
-        self.prints_for([3, 3, 9], LATER_DEAD + [0x40000000], 'batch 4 none calls 1 marks 0 0 0 0')
+        # a literal whose flip makes a clause dead has a lone opposite, and is not tried
+        self.prints_for([3, 3, 1], LATER_DEAD, 'batch 4 none calls 1 marks 0 0 0 0')
+        self.prints_for([3, 3, 0], LATER_DEAD, 'batch 4 spent calls 0 marks 0 0 0 0')
+        # so that a dead clause is an empty one: wherever it stands, nothing is tried from any centre
+        for clauses in ([[1], [2, 3], []], [[1], [], [2, 3]], [[], [1], [2, 3]]):
+            self.prints_for([3, 3, 9], sheet(3, *clauses), 'batch 5 none calls 1 marks 0 0 0 0')
+            self.prints_for([3, 1, 9], sheet(3, *clauses), 'batch 5 none calls 2 marks 0 0 0 0')
 
     def test_1_length(self):
         self.prints(bytes_of([3, 1, 9] + HEAD) + b'\0', 'refused 1 place 0')
@@ -187,9 +199,9 @@ class FourWords(Lines):
         # (1)(-1 32)(-32 33) .. (-97 128): each flip makes the next clause false, of which one variable is left to flip
         chain = [[1]] + [[-u, v] for u, v in zip(ENDS, ENDS[1:])]
         self.prints_for([1, 1, 9], sheet(128, *chain), 'batch 5 clear calls 9 marks ' + ALL_ENDS)
-        # the last flip makes (-128) dead
-        self.prints_for([1, 1, 9], sheet(128, *chain, [-128]), 'batch 5 none calls 9 marks 0 0 0 0')
-        self.prints_for([1, 1, 8], sheet(128, *chain, [-128]), 'batch 5 spent calls 8 marks 0 0 0 0')
+        # 128 has a lone opposite: its flip is not tried
+        self.prints_for([1, 1, 8], sheet(128, *chain, [-128]), 'batch 5 none calls 8 marks 0 0 0 0')
+        self.prints_for([1, 1, 7], sheet(128, *chain, [-128]), 'batch 5 spent calls 7 marks 0 0 0 0')
 
     def test_one_clause_over_all_words(self):
         self.prints_for([8, 1, 9], sheet(128, ENDS), 'batch 5 clear calls 2 marks 1 0 0 0')
@@ -199,24 +211,25 @@ class FourWords(Lines):
         self.prints_for([8, 1, 2], sheet(128, ENDS[::-1], *negative[:7]), 'batch 5 clear calls 2 marks ' + ALONE[128])
         # all have one: nothing is tried
         self.prints_for([1, 1, 1], sheet(128, ENDS, *negative), 'batch 5 none calls 1 marks 0 0 0 0')
-        # a short clause is tried whole: a flip of v makes (-v) dead, and 128 finds, or makes (-128) dead too
+        # the same in a short clause: 128 alone is tried, or nothing
         for v in ENDS[:7]:
-            self.prints_for([1, 1, 3], sheet(128, [v, 128], [-v]), 'batch 5 clear calls 3 marks ' + ALONE[128])
-            self.prints_for([1, 1, 3], sheet(128, [v, 128], [-v], [-128]), 'batch 5 none calls 3 marks 0 0 0 0')
+            self.prints_for([1, 1, 2], sheet(128, [v, 128], [-v]), 'batch 5 clear calls 2 marks ' + ALONE[128])
+            self.prints_for([1, 1, 1], sheet(128, [v, 128], [-v], [-128]), 'batch 5 none calls 1 marks 0 0 0 0')
 
     def test_none(self):
         for v in ALONE:
-            self.prints_for([1, 1, 2], units(v, [v, -v]), 'batch 5 none calls 2 marks 0 0 0 0')
-            self.prints_for([1, 1, 1], units(v, [v, -v]), 'batch 5 spent calls 1 marks 0 0 0 0')
+            self.prints_for([1, 1, 1], units(v, [v, -v]), 'batch 5 none calls 1 marks 0 0 0 0')
+            self.prints_for([1, 1, 0], units(v, [v, -v]), 'batch 5 spent calls 0 marks 0 0 0 0')
             # blocks of 11 with radius 5 have the words 0 and 2047, and the last one, of 7, has 0 and 7: 4,096 centres. From each,
-            # one of the clauses is false, and flipping it makes the other dead
-            self.prints_for([11, 5, 8192], units(128, [v, -v]), 'batch 5 none calls 8192 marks 0 0 0 0')
-            self.prints_for([11, 5, 8191], units(128, [v, -v]), 'batch 5 spent calls 8191 marks 0 0 0 0')
-        # the paper's four clauses under one centre, over two variables that share a bit or stand in two words
+            # one of the clauses is false, and the other is its literal's lone opposite
+            self.prints_for([11, 5, 4096], units(128, [v, -v]), 'batch 5 none calls 4096 marks 0 0 0 0')
+            self.prints_for([11, 5, 4095], units(128, [v, -v]), 'batch 5 spent calls 4095 marks 0 0 0 0')
+        # the paper's four clauses under one centre, over two variables that share a bit or stand in two words: u is tried, and v, and
+        # after each the other's opposite is alone in (-u -v)
         for u, v in ((1, 33), (32, 33), (64, 65), (96, 97), (32, 128), (127, 128), (128, 1)):
             four = sheet(128, [u, v], [u, -v], [-u, v], [-u, -v])
-            self.prints_for([1, 1, 5], four, 'batch 5 none calls 5 marks 0 0 0 0')
-            self.prints_for([1, 1, 4], four, 'batch 5 spent calls 4 marks 0 0 0 0')
+            self.prints_for([1, 1, 3], four, 'batch 5 none calls 3 marks 0 0 0 0')
+            self.prints_for([1, 1, 2], four, 'batch 5 spent calls 2 marks 0 0 0 0')
 
     def far_from_most(self, n):
         """The one assignment that meets these clauses pays, in blocks of 11, the first 5 variables of each but the last, and the
@@ -241,7 +254,7 @@ class FourWords(Lines):
 
 
 class ShortAndLone(Lines):
-    """Paper 6 of 02. Under plan 1, 1 there is one centre, all marks 0, and every variable is within its radius."""
+    """Papers 6 and 7 of 02. Under plan 1, 1 there is one centre, all marks 0, and every variable is within its radius."""
 
     def comes_to(self, words, verdict, calls, marks='0 0 0 0', plan=(1, 1)):
         """The line with just the calls needed, and spent with one less."""
@@ -249,30 +262,67 @@ class ShortAndLone(Lines):
         self.prints_for([*plan, calls - 1], words, 'batch 5 spent calls %d marks 0 0 0 0' % (calls - 1))
 
     def test_short(self):
-        # (1 2 3) has three variables to flip; (4) has one, goes first, and its flip makes (-4) dead.
-        self.comes_to(sheet(4, [1, 2, 3], [4], [-4]), 'none', 2)
-        # two are short too: one dead call for each.
-        self.comes_to(sheet(5, [1, 2, 3], [4, 5], [-4], [-5]), 'none', 3)
+        # (1 2 3) has three variables to flip; (2) has one, goes first, and meets both. From the first it would be 1 and then 2, 3 calls
+        self.comes_to(sheet(3, [1, 2, 3], [2]), 'clear', 2, '2 0 0 0')
+        # (4) goes first, and leaves (-4 5), whose 5 has a lone opposite in (-4 -5): nothing is left to try
+        self.comes_to(sheet(5, [1, 2, 3], [4], [-4, 5], [-4, -5]), 'none', 2)
+        # two are short too: so it is for each of 4 and 5
+        self.comes_to(sheet(6, [1, 2, 3], [4, 5], [-4, 6], [-4, -6], [-5, 6], [-5, -6]), 'none', 3)
         # three are not: the first clause is taken, and 1 meets both; from the second it would be 5 and then 1, 3 calls
         self.comes_to(sheet(6, [1, 2, 3, 4], [5, 1, 6]), 'clear', 2, '1 0 0 0')
         # the short clause goes first even where that costs a call: 4, then 1.
         self.comes_to(sheet(4, [1, 2, 3], [4, 1]), 'clear', 3, '9 0 0 0')
-        # short by what is not flipped, not by length: after 1 the third clause has 5 and 6 left, and goes before the second.
-        # It is tried whole, though 5 and 6 have lone opposites: two dead calls.
-        self.comes_to(sheet(6, [1], [2, 3, 4], [-1, 5, 6], [-5], [-6]), 'none', 4)
-        # a short clause is tried whole: 1 makes (-1) dead, 2 finds
-        self.comes_to(sheet(2, [1, 2], [-1]), 'clear', 3, '2 0 0 0')
-        self.comes_to(sheet(2, [1, 2], [-1], [-2]), 'none', 3)
+        # short by what is not flipped, not by length: after 1 the third clause has 5 and 2 left, and goes before the second, where 2
+        # would meet both: 5, then 2
+        self.comes_to(sheet(5, [1], [2, 3, 4], [-1, 5, 2]), 'clear', 4, '19 0 0 0')
         # a true clause is never taken, however short: (-4) is left alone
         self.comes_to(sheet(4, [1, 2, 3], [-4]), 'clear', 2, '1 0 0 0')
+
+    def test_short_and_lone(self):
+        # one literal, and it is not tried; so behind a longer clause
+        self.comes_to(sheet(1, [1], [-1]), 'none', 1)
+        self.comes_to(sheet(4, [1, 2, 3], [4], [-4]), 'none', 1)
+        # of two literals the one without a lone opposite is tried, wherever it stands
+        self.comes_to(sheet(2, [1, 2], [-1]), 'clear', 2, '2 0 0 0')
+        self.comes_to(sheet(2, [1, 2], [-2]), 'clear', 2, '1 0 0 0')
+        self.comes_to(sheet(2, [-1], [2, 1]), 'clear', 2, '2 0 0 0')
+        # both have one, and nothing is tried
+        self.comes_to(sheet(2, [1, 2], [-1], [-2]), 'none', 1)
+        self.comes_to(sheet(5, [1, 2, 3], [4, 5], [-4], [-5]), 'none', 1)
+        # -1 is not alone in (-1 3), and 2 has a lone opposite: 1, then 3
+        self.comes_to(sheet(3, [1, 2], [-1, 3], [-2]), 'clear', 3, '5 0 0 0')
+
+    def test_short_and_lone_after_a_flip(self):
+        # after 1 the third clause has 5 and 6 left, and goes before the second: neither is tried, or 6 alone, and then 2
+        self.comes_to(sheet(6, [1], [2, 3, 4], [-1, 5, 6], [-5], [-6]), 'none', 2)
+        self.comes_to(sheet(6, [1], [2, 3, 4], [-1, 5, 6], [-5]), 'clear', 4, '35 0 0 0')
+        # after 1 only 2 is left of the second clause, and is not tried
+        self.comes_to(sheet(2, [1], [-1, 2], [-2]), 'none', 2)
+        # after 1 only -2 is left of (-1 -2), whose flipped literal is not met: of 2 and 3 just 3 is tried
+        self.comes_to(sheet(3, [1], [2, 3], [-1, -2]), 'clear', 3, '5 0 0 0')
+        self.comes_to(sheet(2, [1], [2], [-1, -2]), 'none', 2)
+        # after 1 only -2 is left of (1 -2), but its flipped literal is met: just 2 is tried
+        self.comes_to(sheet(3, [1], [2, 3], [1, -2], [-3]), 'clear', 3, '3 0 0 0')
+        # after 1 to 7 only -8 is left of a clause of eight: of 8 and 9 just 9 is tried
+        seven = [[1], [2], [3], [4], [5], [6], [7]]
+        self.comes_to(sheet(9, *seven, [8, 9], [-1, -2, -3, -4, -5, -6, -7, -8]), 'clear', 9, '383 0 0 0')
+
+    def test_flipped_literal(self):
+        # after 1 the clause (1) has one literal met and none open, but its variable is flipped: that makes nothing of (-1 2 3 4), which
+        # has three left. (3) is short, and 3 meets both; from the second clause it would be 2 and then 3, 4 calls
+        self.comes_to(sheet(4, [1], [-1, 2, 3, 4], [3]), 'clear', 3, '5 0 0 0')
+        # the same after 5: the fourth clause has 4, 3 and 2 left, and 3 is next
+        self.comes_to(sheet(5, [-3, -2, 1], [2, 1, 5, -3, -4], [5], [4, -5, 3, 2], [3]), 'clear', 3, '20 0 0 0', (3, 3))
+        # in a short clause: -1 is not flipped back
+        self.comes_to(sheet(2, [1], [-1, 2]), 'clear', 3, '3 0 0 0')
 
     def test_lone(self):
         # 1 has a lone opposite and is not tried.
         self.comes_to(sheet(3, [1, 2, 3], [-1]), 'clear', 2, '2 0 0 0')
         # nothing is left to try.
         self.comes_to(sheet(3, [1, 2, 3], [-1], [-2], [-3]), 'none', 1)
-        # 1 is tried: it makes (-1 4) false, which is short, and 4 makes (-4) dead; 2 is not tried; 3 finds
-        self.comes_to(sheet(4, [1, 2, 3], [-2], [-1, 4], [-4]), 'clear', 4, '4 0 0 0')
+        # 1 is tried: it makes (-1 4) false, which is short, and 4 is not tried; 2 is not tried; 3 finds
+        self.comes_to(sheet(4, [1, 2, 3], [-2], [-1, 4], [-4]), 'clear', 3, '4 0 0 0')
         # after 1 only -2 is left of (-1 -2), whose flipped literal is not met: 2 is not tried.
         self.comes_to(sheet(4, [1], [2, 3, 4], [-1, -2]), 'clear', 3, '5 0 0 0')
         # after 1 only -2 is left of (1 -2), but its flipped literal is met: of 2, 3 and 4 just 2 is tried
@@ -309,8 +359,14 @@ class ShortAndLone(Lines):
         self.comes_to(sheet(3, [1, 2, 3], [-1], [-2], [-3]), 'none', 3, plan=(3, 1))
         # from 0 (1) is short, and its flip is the last; from 7 the opposites 1, 2 and 3 of the negative literals are alone
         self.comes_to(sheet(3, [-1, -2, -3], [1], [2], [3]), 'none', 3, plan=(3, 1))
+        # of (1 2) just 2 is tried; of (1) and (-1) nothing, from either centre
+        self.comes_to(sheet(3, [1, 2], [-1]), 'clear', 2, '2 0 0 0', (3, 1))
+        self.comes_to(sheet(3, [1], [-1]), 'none', 2, plan=(3, 1))
+        # from 0 the flip of 1 is the last; from 7 the opposite of -1 is alone in (1), and -2 finds
+        self.comes_to(sheet(3, [1], [3], [-1, -2]), 'clear', 4, '5 0 0 0', (3, 1))
         # radius 0: step 2 goes before the choice, and each of 8 centres is one call
         self.comes_to(sheet(3, [1, 2, 3], [-1], [-2], [-3]), 'none', 8, plan=(3, 0))
+        self.comes_to(sheet(3, [1], [-1]), 'none', 8, plan=(3, 0))
 
     def test_every_word(self):
         # variables at the same place of the words, or at their ends: the opposite of one of them is alone, not of another
@@ -319,12 +375,25 @@ class ShortAndLone(Lines):
             self.comes_to(sheet(128, [v, u, w], [-v]), 'clear', 2, ALONE[u])
             self.comes_to(sheet(128, [v, w, u], [-w], [-v]), 'clear', 2, ALONE[u])
             self.comes_to(sheet(128, [u, v, w], [-u], [-v], [-w]), 'none', 1)
-            # u, v and w are long, 2 is short and is flipped for nothing
-            self.comes_to(sheet(128, [u, v, w], [2], [-2]), 'none', 2)
+            # u, v and w are three, and w alone goes first
+            self.comes_to(sheet(128, [u, v, w], [w]), 'clear', 2, ALONE[w])
         # after 32 only -64 is left of (-32 -64)
         self.comes_to(sheet(128, [32], [64, 96, 128], [-32, -64]), 'clear', 3, '2147483648 0 2147483648 0')
         # after 97 (97 -33) is met by it, and 33 is tried
         self.comes_to(sheet(128, [97], [33, 65, 1], [97, -33], [-65], [-1]), 'clear', 3, '0 1 0 1')
+
+    def test_short_and_lone_in_every_word(self):
+        for u, v, w in ((1, 33, 65), (33, 65, 97), (97, 1, 33), (65, 97, 1), (32, 64, 96), (64, 96, 128), (128, 32, 64), (96, 128, 32)):
+            self.comes_to(sheet(128, [u, v], [-v]), 'clear', 2, ALONE[u])
+            self.comes_to(sheet(128, [-v], [v, u]), 'clear', 2, ALONE[u])
+            self.comes_to(sheet(128, [u, v], [-w]), 'clear', 2, ALONE[u])
+            self.comes_to(sheet(128, [u, v], [-u], [-v]), 'none', 1)
+            # after u only v is left, and is not tried
+            self.comes_to(sheet(128, [u], [-u, v], [-v]), 'none', 2)
+            # after u only -v is left of the last clause. Its flipped literal is not met, and w alone is tried; or it is met, and v is
+            # the first
+            self.comes_to(sheet(128, [u], [v, w], [-u, -v]), 'clear', 3, paid(u, w))
+            self.comes_to(sheet(128, [u], [v, w], [u, -v]), 'clear', 3, paid(u, v))
 
     def test_many_clauses(self):
         # 64 true clauses are a word of them; wherever they stand the answer is the same
@@ -334,9 +403,21 @@ class ShortAndLone(Lines):
             self.comes_to(sheet(6, [1, 2, 3], *kept, *opposites), 'none', 1)
             self.comes_to(sheet(6, *kept, [1, 2, 3], *opposites), 'none', 1)
             self.comes_to(sheet(6, *opposites, *kept, [1, 2, 3]), 'none', 1)
-            self.comes_to(sheet(6, [1, 2, 3], *kept, [4, 5], [-4], [-5]), 'none', 3)
+            self.comes_to(sheet(6, [1, 2, 3], *kept, [4, 5], [-4], [-5]), 'none', 1)
             # the lone opposites of 4, 5 and 6 do not concern (1 2 3), which is passed over
             self.comes_to(sheet(7, [1, 2, 3], *[[-7]] * more, [4, 5, 6], [-4], [-5], [-6]), 'none', 1)
+
+    def test_short_and_lone_among_many_clauses(self):
+        for more in (1, 60, 61, 62, 63, 64, 65, 127, 128, 510, 511, 512, 1019, 1020):
+            kept = [[-6]] * more
+            self.comes_to(sheet(6, [1], *kept, [-1]), 'none', 1)
+            self.comes_to(sheet(6, [-1], *kept, [1]), 'none', 1)
+            self.comes_to(sheet(6, [1, 2], *kept, [-1]), 'clear', 2, '2 0 0 0')
+            self.comes_to(sheet(6, [-1], *kept, [1, 2]), 'clear', 2, '2 0 0 0')
+            self.comes_to(sheet(6, *kept, [2, 1], [-1]), 'clear', 2, '2 0 0 0')
+            # after 1 only -2 is left of (-1 -2), or of (1 -2), which is met by a flipped literal
+            self.comes_to(sheet(6, [1], [2, 3], *kept, [-1, -2]), 'clear', 3, '5 0 0 0')
+            self.comes_to(sheet(6, [1, -2], *kept, [1], [2, 3], [-3]), 'clear', 3, '3 0 0 0')
 
 
 class Around(unittest.TestCase):
@@ -352,6 +433,8 @@ class Around(unittest.TestCase):
         status, lines = self.ran(['tools/sheet', 'solve', '-'], 'p cnf 1 2\n1 0\n-1 0\n')
         self.assertEqual((status, lines[-2:]), (20, ['s UNSATISFIABLE', '']))
         status, lines = self.ran(['tools/sheet', 'solve', '-', '1', '1', '1'], 'n 1 (1) (-1)')
+        self.assertEqual((status, lines[-3:]), (20, ['c calls 1', 's UNSATISFIABLE', '']))
+        status, lines = self.ran(['tools/sheet', 'solve', '-', '1', '0', '1'], 'n 1 (1) (-1)')
         self.assertEqual((status, lines[-2:]), (0, ['s UNKNOWN', '']))
         status, lines = self.ran(['tools/sheet', 'solve', '-', '13', '1', '1'], 'n 1 (1) (-1)')
         self.assertEqual((status, lines[-2:]), (0, ['s UNKNOWN', '']))
@@ -369,7 +452,8 @@ class Around(unittest.TestCase):
         text = 'batch 7 n 1 (1) (-1)'
         self.assertEqual(self.ran(['run.sh'], '')[1][0], 'batch 70000 clear calls 2 marks 1 0 0 0')
         self.assertEqual(self.ran(['run.sh', '-'], text)[1][:2], ['plan 1 0, budget 4294967295', 'batch 7 none calls 2 marks 0 0 0 0'])
-        self.assertEqual(self.ran(['run.sh', '1', '1', '1', '-'], text)[1][0], 'batch 7 spent calls 1 marks 0 0 0 0')
+        self.assertEqual(self.ran(['run.sh', '1', '1', '1', '-'], text)[1][0], 'batch 7 none calls 1 marks 0 0 0 0')
+        self.assertEqual(self.ran(['run.sh', '1', '0', '1', '-'], text)[1][0], 'batch 7 spent calls 1 marks 0 0 0 0')
         lines = self.ran(['run.sh', '-'], 'batch 7 n 128 (128) (-64)')[1]
         self.assertEqual(lines[:2], ['plan 1 1, budget 4294967295', 'batch 7 clear calls 2 marks 0 0 0 2147483648'])
         self.assertEqual(lines[-4:], ['variable 128: pay', 'clause 1 (128): met by 128', 'clause 2 (-64): met by -64', ''])

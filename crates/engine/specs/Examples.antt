@@ -1,5 +1,5 @@
--- The settled examples of paper 01, the one of paper 4 of 02, one over four words, and one for each of paper 6's two rules, proved
--- from the definitions by one joint statement about one table.
+-- The settled examples of paper 01 as paper 7 of 02 amends them, the one of paper 4, one over four words, one for each of paper 6's
+-- two rules, and two of paper 7's, proved from the definitions by one joint statement about one table.
 use mathlib.Core.Path.{_≡_, refl}
 use mathlib.Core.Bool.{true, false}
 use mathlib.Core.List.{List, [], _∷_, _++_, map}
@@ -96,15 +96,26 @@ examples =
     row (run-of 3 1 1 (sheet 0 [])) (the-clear no-marks 1)
     ∷ row (run-of 3 1 9 (sheet 0 ([] ∷ []))) (the-none 1)
     ∷ row (run-of 3 1 9 (sheet 3 ((pos 1 ∷ pos 2 ∷ []) ∷ (neg 1 ∷ neg 3 ∷ []) ∷ (neg 3 ∷ []) ∷ []))) (the-clear (1 ∷ 0 ∷ 0 ∷ 0 ∷ []) 2)
-    ∷ row (run-of 1 1 2 opposites) (the-none 2)
-    ∷ row (run-of 1 1 1 opposites) (the-spent 1)
+    ∷ row (run-of 1 1 2 opposites) (the-none 1)
+    ∷ row (run-of 1 1 1 opposites) (the-none 1)
     ∷ row (run-of 1 0 2 opposites) (the-none 2)
     ∷ row (run-of 2 1 6 all-four) (the-none 6)
-    ∷ row (run-of 2 2 5 all-four) (the-none 5)
-    ∷ row (run-of 3 3 2 (sheet 3 ((pos 1 ∷ []) ∷ (pos 2 ∷ pos 3 ∷ []) ∷ (neg 1 ∷ []) ∷ []))) (the-none 2)
+    ∷ row (run-of 2 2 5 all-four) (the-none 3)
+    ∷ row (run-of 2 2 2 all-four) (the-spent 2)
+    ∷ row (run-of 3 3 2 (sheet 3 ((pos 1 ∷ []) ∷ (pos 2 ∷ pos 3 ∷ []) ∷ (neg 1 ∷ []) ∷ []))) (the-none 1)
     ∷ row (run-of 1 1 9 (sheet 128 ((pos 128 ∷ []) ∷ (pos 33 ∷ []) ∷ (neg 32 ∷ []) ∷ []))) (the-clear (0 ∷ 1 ∷ 0 ∷ 2 ^ 31 ∷ []) 3)
-    ∷ row (run-of 1 1 2 (sheet 4 ((pos 1 ∷ pos 2 ∷ pos 3 ∷ []) ∷ (pos 4 ∷ []) ∷ (neg 4 ∷ []) ∷ []))) (the-none 2)
+    ∷ row (run-of 1 1 3 (sheet 5 ((pos 1 ∷ pos 2 ∷ pos 3 ∷ []) ∷ (pos 4 ∷ pos 5 ∷ []) ∷ (neg 1 ∷ neg 4 ∷ []) ∷ [])))
+    (the-clear (10 ∷ 0 ∷ 0 ∷ 0 ∷ []) 3)
     ∷ row (run-of 1 1 2 (sheet 3 ((pos 1 ∷ pos 2 ∷ pos 3 ∷ []) ∷ (neg 1 ∷ []) ∷ []))) (the-clear (2 ∷ 0 ∷ 0 ∷ 0 ∷ []) 2)
+    ∷ row (run-of 1 1 2 (sheet 2 ((pos 1 ∷ pos 2 ∷ []) ∷ (neg 1 ∷ []) ∷ []))) (the-clear (2 ∷ 0 ∷ 0 ∷ 0 ∷ []) 2)
+    ∷ row (run-of 3 3 3 (sheet 5
+    ((neg 3 ∷ neg 2 ∷ pos 1 ∷ [])
+    ∷ (pos 2 ∷ pos 1 ∷ pos 5 ∷ neg 3 ∷ neg 4 ∷ [])
+    ∷ (pos 5 ∷ [])
+    ∷ (pos 4 ∷ neg 5 ∷ pos 3 ∷ pos 2 ∷ [])
+    ∷ (pos 3 ∷ [])
+    ∷ [])))
+    (the-clear (20 ∷ 0 ∷ 0 ∷ 0 ∷ []) 3)
     ∷ row (code-of 2 1) (0 ∷ 1 ∷ [])
     ∷ row (code-of 3 1) (0 ∷ 7 ∷ [])
     ∷ row (code-of 4 1) (0 ∷ 7 ∷ 8 ∷ 15 ∷ [])

@@ -97,9 +97,9 @@ branch select skip s = tried skip s (select s)
 unfoldable pub select : List Clause → State → Clause
 select cs s = first (λ c. meetsS s c || meetsL cs s c) cs (first (λ c. not (isTrue s c)) cs [])
 
--- in one that does not meet S it skips the literals that have a lone opposite
+-- and skips its literals that have a lone opposite
 unfoldable pub skip : List Clause → State → Literal → Bool
-skip cs s l = not (meetsS s (select cs s)) && hasLoneOpposite cs s l
+skip cs s l = hasLoneOpposite cs s l
 
 -- The engine's rule: no literal where some clause is dead.
 unfoldable pub rule : List Clause → Rule
@@ -107,7 +107,7 @@ rule cs s = cond (some (isDead s) cs) [] (branch (select cs) (skip cs) s)
 
 -- ---- the tree of a ball
 
--- The four steps of a call in paper 01, the third as paper 4 of 02 amends it, and the choice in the fourth as paper 6 does:
+-- The four steps of a call in paper 01, the third as paper 4 of 02 amends it, and the choice in the fourth as papers 6 and 7 do:
 -- 1. all clauses true: found, with this assignment: `goal`, `out`;
 -- 2. else, no flip left: no: `explore` at depth 0 makes no move;
 -- 3. else, some clause dead: no: `rule` gives no literal;

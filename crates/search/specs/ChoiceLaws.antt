@@ -224,14 +224,6 @@ module _ {k : ℕ} {cells : List ℕ} {s : State} {r : Picks} (p : Looked k cell
       go i h true q = true-unspared k cells s i q
       go i h false q = none-spared k cells s (alone-none e) (clauseAt cells i) q
 
-  -- a clause up to that one meets S exactly if it is that one
-  short-is : (i : ℕ) → i ≤ r .few → i < k → meetsS s (clauseAt cells i) ≡ eqb i (r .few)
-  short-is i h l = go (eqb i (r .few)) refl
-    where
-      go : (b : Bool) → eqb i (r .few) ≡ b → meetsS s (clauseAt cells i) ≡ b
-      go true q = let e = eqb-true i (r .few) q in rw e (p .few .here (omega arith))
-      go false q = p .few .before i (omega arith) (omega (arith, eqb-false i (r .few) q))
-
   -- c is the first clause that meets L before the first that meets S, or that one: it is taken, where there is one, and otherwise the
   -- first false one.
   module _ (inside : r .first < k) (c : ℕ) (f : First (r .first) (r .few) (isSpared k cells s) c) where
@@ -245,7 +237,7 @@ module _ {k : ℕ} {cells : List ℕ} {s : State} {r : Picks} (p : Looked k cell
         go true q = rw (short, true-unspared k cells s i (true-before i (ltb-true _ _ q)))
         go false q = rw (short, f .before i (ltb-false _ _ q) h)
 
-    pub selected-here : (c ≡ k → ⊥) → Selected k cells s (r .few) c
+    pub selected-here : (c ≡ k → ⊥) → Selected k cells s c
     unfolding select
     selected-here d =
         let l : c < k = omega (arith, f .within, p .few .within) in
@@ -253,20 +245,18 @@ module _ {k : ℕ} {cells : List ℕ} {s : State} {r : Picks} (p : Looked k cell
           inside = l;
           same = held-first k cells (preferred (held k cells) s) c _ l (here l) ordinary;
           failing = preferred-false (held k cells) s (clauseAt cells c) (here l);
-          short = short-is c (f .within) l;
         }
       where
         here : c < k → preferred (held k cells) s (clauseAt cells c) ≡ true
         here l =
             ⊎-elim
-            (λ e. or-left (meetsS s (clauseAt cells c)) _ (short-is c (f .within) l ∙ eq-eqb c (r .few) e))
+            (λ (e : c ≡ r .few). or-left (meetsS s (clauseAt cells c)) _ (rw e (p .few .here (omega arith))))
             (λ h. or-right (meetsS s (clauseAt cells c)) _ (f .here h))
             (eq-or-lt-of-le (f .within))
 
-    pub selected-first : c ≡ k → Selected k cells s (r .few) (r .first)
+    pub selected-first : c ≡ k → Selected k cells s (r .first)
     unfolding select
     selected-first e =
-        let few : r .few ≡ k = omega (arith, f .within, p .few .within) in
         let failing : isTrue s (clauseAt cells (r .first)) ≡ false = not-true _ (p .first .here inside) in
         let none = held-none k cells (preferred (held k cells) s) (λ i h. ordinary i (omega arith)) in
         record {
@@ -275,12 +265,11 @@ module _ {k : ℕ} {cells : List ℕ} {s : State} {r : Picks} (p : Looked k cell
               ∙ held-first k cells (λ x. not (isTrue s x)) (r .first) [] inside (p .first .here inside)
               (λ i h. p .first .before i (omega arith) h);
           failing = failing;
-          short = short-is (r .first) (omega arith) inside;
         }
 
   -- ---- its literals
 
-  module _ (c : ℕ) (q : Selected k cells s (r .few) c) where
+  module _ (c : ℕ) (q : Selected k cells s c) where
     -- the choice, where the bits are those of the literals that are tried
     branching : (t : ℕ) → Flags cells c (lengthAt cells c) (isTried (skip (held k cells)) s) t →
         Chosen k cells s (record { clause = c; tried = t })
@@ -295,35 +284,24 @@ module _ {k : ℕ} {cells : List ℕ} {s : State} {r : Picks} (p : Looked k cell
           branch = λ l. record { inside = l; failing = q .failing; flags = flags };
         }
 
-    -- a literal is tried, by whether the clause meets S
-    tried-is : (b : Bool) → eqb c (r .few) ≡ b → (l : Literal) →
-        isTried (skip (held k cells)) s l ≡ (not (not b && hasLoneOpposite (held k cells) s l) && not (isFlipped s l))
-    unfolding isTried skip
-    tried-is b e l = rw (q .same, q .short, e)
-
     module _ (row : Row cells c) (all : ℕ) (flags : Flags cells c (lengthAt cells c) (λ l. not (isFlipped s l)) all) where
-      -- It is tried whole where it meets S,
-      pub chosen-short : c ≡ r .few → Chosen k cells s (record { clause = c; tried = all })
-      chosen-short e = branching all (flags-same (λ j l. sym (tried-is true (eq-eqb c (r .few) e) _)) flags)
-
-      -- and where no clause has the numbers 1 and 0;
-      pub chosen-whole : (c ≡ r .few → ⊥) → k ≤ r .lone → Chosen k cells s (record { clause = c; tried = all })
-      chosen-whole d e =
+      -- It is tried whole where no clause has the numbers 1 and 0,
+      pub chosen-whole : k ≤ r .lone → Chosen k cells s (record { clause = c; tried = all })
+      unfolding isTried skip
+      chosen-whole e =
           branching all (flags-same (λ j l.
           let none = none-lone k cells s (alone-none e) (clauseAt cells c) (q .failing) _ (row-in row j l) in
-          sym (tried-is false (ne-eqb c (r .few) d) _ ∙ rw none)) flags)
+          rw none refl) flags)
 
-      -- otherwise without the literals that have a lone opposite.
-      pub chosen-without : (c ≡ r .few → ⊥) → (skipped : ℕ) →
-          Flags cells c (lengthAt cells c) (hasLoneOpposite (held k cells) s) skipped →
+      -- and otherwise without the literals that have a lone opposite.
+      pub chosen-without : (skipped : ℕ) → Flags cells c (lengthAt cells c) (hasLoneOpposite (held k cells) s) skipped →
           Chosen k cells s (record { clause = c; tried = bitXor all skipped })
-      unfolding xor
-      chosen-without d skipped lones =
+      unfolding isTried skip xor
+      chosen-without skipped lones =
           branching (bitXor all skipped) (flags-same (λ j l.
-          without (isFlipped s _) (hasLoneOpposite (held k cells) s _) (flipped-lone (held k cells) s _)
-          ∙ sym (tried-is false (ne-eqb c (r .few) d) _)) (flags-either flags lones))
+          without (isFlipped s _) (hasLoneOpposite (held k cells) s _) (flipped-lone (held k cells) s _)) (flags-either flags lones))
         where
-          without : (f h : Bool) → (f ≡ true → h ≡ false) → xor (not f) h ≡ (not (not false && h) && not f)
+          without : (f h : Bool) → (f ≡ true → h ≡ false) → xor (not f) h ≡ (not h && not f)
           without true true e = absurd (true≢false (e refl))
           without true false e = refl
           without false true e = refl

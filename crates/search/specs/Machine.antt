@@ -78,12 +78,11 @@ pub record Looked (k : ℕ) (cells : List ℕ) (s : State) (r : Picks) : Type 0 
   pub few : First 0 k (λ i. meetsS s (clauseAt cells i)) (r .few)
   pub lone : First 0 k (passes oneZero cells (λ c. reading s c .met) (λ c. reading s c .«open»)) (r .lone)
 
--- r is the number of the clause that the rule selects; it meets S exactly if it is the first that does.
-pub record Selected (k : ℕ) (cells : List ℕ) (s : State) (few r : ℕ) : Type 0 where
+-- r is the number of the clause that the rule selects.
+pub record Selected (k : ℕ) (cells : List ℕ) (s : State) (r : ℕ) : Type 0 where
   pub inside : r < k
   pub same : select (held k cells) s ≡ clauseAt cells r
   pub failing : isTrue s (clauseAt cells r) ≡ false
-  pub short : meetsS s (clauseAt cells r) ≡ eqb r few
 
 -- What a call branches on: a clause that is false, and those of its literals that are tried.
 pub record Branch (k : ℕ) (cells : List ℕ) (s : State) (r : Choice) : Type 0 where

@@ -200,10 +200,6 @@ preferred cs s c = meetsS s c || meetsL cs s c
 pub preferred-false : (cs : List Clause) (s : State) (c : Clause) → preferred cs s c ≡ true → isTrue s c ≡ false
 preferred-false cs s c e = ⊎-elim (short-false s c) (lone-false cs s c) (or-cases (meetsS s c) (meetsL cs s c) e)
 
-skip-lone : (cs : List Clause) (s : State) (l : Literal) → skip cs s l ≡ true → hasLoneOpposite cs s l ≡ true
-unfolding skip
-skip-lone cs s l e = and-right (not (meetsS s (select cs s))) (hasLoneOpposite cs s l) e
-
 -- The engine's rule: no literal where some clause is dead, and otherwise those of the clause selected.
 pub rule-dead : (cs : List Clause) (s : State) → some (isDead s) cs ≡ true → rule cs s ≡ []
 unfolding rule
@@ -242,13 +238,13 @@ module _ (n : ℕ) (cs : List Clause) (known : Known n cs) where
       unmet l i = false-unmet s (select s) (f .failing) l i
 
   rule-fair : (s : State) → every (isTrue s) cs ≡ false → Fair cs (select cs) (skip cs) s
-  unfolding select
+  unfolding select skip
   rule-fair s g =
       let (i, e) = selected (some (preferred cs s) cs) refl in
       record {
         chosen = i;
         failing = e;
-        spared = λ w model a l i′ e′. lone-unmet cs s l (skip-lone cs s l e′) w model a;
+        spared = λ w model a l i′ e′. lone-unmet cs s l e′ w model a;
       }
     where
       selected : (b : Bool) → some (preferred cs s) cs ≡ b → In (select cs s) cs × (isTrue s (select cs s) ≡ false)

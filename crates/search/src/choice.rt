@@ -145,7 +145,7 @@ fn select(
     requires { ⌜ Shows k (now cells) (stateIn at) (now planes) ⌝ }
     requires { ⌜ Lone k (now cells) (stateIn at) (now lone) ⌝ }
     requires { ⌜ Looked k (now cells) (stateIn at) picks × (picks .first < k) ⌝ }
-    ensures { λ r. ⌜ Selected k (now (cells .entry)) (stateIn at) (picks .few) r ⌝ }
+    ensures { λ r. ⌜ Selected k (now (cells .entry)) (stateIn at) r ⌝ }
 {
     let mut clause = picks.few;
     if picks.lone < k {
@@ -154,7 +154,7 @@ fn select(
     if clause == k { picks.first } else { clause }
 }
 
-// The choice of a call. A clause that meets S, which is the first of that kind, is tried whole.
+// The choice of a call.
 pub fn choose(
     cells: &[u32; formula::CELLS],
     occ: &[u64; OCCURRENCES],
@@ -176,7 +176,7 @@ pub fn choose(
     }
     let clause = select(cells, occ, k, planes, &lone, at, picks);
     let all = unflipped(cells, k, at, clause);
-    if clause == picks.few || k <= picks.lone {
+    if k <= picks.lone {
         return Choice { clause, tried: all };
     }
     let skipped = lone_literals(cells, occ, k, &lone, at, clause);

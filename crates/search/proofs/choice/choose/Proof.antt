@@ -1,14 +1,12 @@
 -- `choose` meets its contract: one pass over the planes tells where all clauses are true and where one is dead; otherwise it tells
 -- enough to select a clause and to say which of its literals are skipped.
 use mathlib.Core.Path.{refl}
-use mathlib.Core.Logic.{⊎-elim}
 use Prim.Native.Nat.{_<_}
 use native.Mathlib.Omega.{arith}
-use borrow.Author.Tests.{leb-true}
 use Rattle.formula.specs.Machine.{Row}
 use Rattle.formula.specs.TableLaws.{table-row}
 use Rattle.search.specs.Machine.{stateIn, Looked}
-use Rattle.search.specs.ChoiceLaws.{looked, chosen-none, chosen-short, chosen-whole, chosen-without}
+use Rattle.search.specs.ChoiceLaws.{looked, chosen-none, chosen-whole, chosen-without}
 use Rattle.search.proofs.choice.choose.Statement.{statement}
 use Rattle.search.proofs.choice.choose.Tie as tie
 
@@ -54,14 +52,11 @@ returns-2 c =
     let e = c .before .before in
     let s = e .before in
     let f = s .before .before in
-    ⊎-elim
-    (λ w. chosen-short (seen f) _ (s .select .ensures) (row s) _ (e .unflipped .ensures) (w .taken))
-    (λ w. chosen-whole (seen f) _ (s .select .ensures) (row s) _ (e .unflipped .ensures) (w .0 .left) (leb-true _ _ (w .2 .taken)))
-    (c .if2 .came)
+    chosen-whole (seen f) _ (s .select .ensures) (row s) _ (e .unflipped .ensures) (c .if2 .taken)
 
 lone-literals-requires : tie.Need-lone-literals-requires
 lone-literals-requires c κs =
-    let s = c .before .before .before .before .before .before in
+    let s = c .before .before .before .before in
     let f = s .before .before in
     let p = start f .pre in
     let lanes = looked (picked f .pick .ensures _ _ _ (p .1 .met) (p .1 .«open»)) (failing f) .1 in
@@ -69,11 +64,10 @@ lone-literals-requires c κs =
 
 returns-3 : tie.Need-returns-3
 returns-3 c =
-    let g = c .before .before .before .before in
-    let e = g .before .before in
+    let e = c .before .before .before .before in
     let s = e .before in
     let f = s .before .before in
-    chosen-without (seen f) _ (s .select .ensures) (row s) _ (e .unflipped .ensures) (g .if2 .left) _ (c .lone-literals .ensures)
+    chosen-without (seen f) _ (s .select .ensures) (row s) _ (e .unflipped .ensures) _ (c .lone-literals .ensures)
 
 pub choose-spec : {M : Type 1} → statement M
 choose-spec =
