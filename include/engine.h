@@ -7,7 +7,7 @@
      valid during the call, and need live no longer: the library keeps no pointer. Meanwhile nobody writes them, and nobody reads
      the table or a tally. A pointer may be null where its length is 0. The two sheets of alike, and the two arrays of
      clause_counts, may share a buffer; the parts of a tally and its sheet may not.
-   - There is enough stack: run takes about 297 KB at its deepest (165 KB with 32 variables), alike 74 KB, clause_counts and the
+   - There is enough stack: run takes about 332 KB at its deepest (198 KB with 32 variables), alike 74 KB, clause_counts and the
      operations on a tally 37 KB, covering_code 32 KB (docs/BENCH.md).
 
    In every reply `number` and `place` are the refusal's number and place (README.md has the table); both are 0 where nothing

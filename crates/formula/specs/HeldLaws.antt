@@ -1,7 +1,7 @@
 -- Laws of the clauses that a table holds, by their numbers: a test that all pass, one that none passes, and the first that passes one.
 use mathlib.Core.Path.{_≡_, refl, sym, ap, _∙_}
 use mathlib.Core.Logic.{_⊎_, inl, inr}
-use mathlib.Core.Bool.{Bool, true, false, cond, _&&_, true≢false}
+use mathlib.Core.Bool.{Bool, true, false, cond, _&&_, _||_, true≢false}
 use mathlib.Core.List.{List, map}
 use Prim.Native.Nat.{ℕ, zero, suc, _+_, _≤_, _<_}
 use native.Mathlib.Nat.{eq-or-lt-of-le}
@@ -34,6 +34,17 @@ module _ {A : Type 0} (p : A → Bool) (f : ℕ → A) where
   some-run i zero h = refl
   some-run i (suc n) h = rw (h i (omega arith) (omega arith)) (some-run (suc i) n (λ j l r. h j (omega arith) (omega arith)))
 
+  some-at : (i n : ℕ) → some p (map f (span i n)) ≡ true → (j : ℕ) × (i ≤ j) × (j < i + n) × (p (f j) ≡ true)
+  unfolding some span
+  some-at i zero e = absurd (true≢false (sym e))
+  some-at i (suc n) e = go (some-at (suc i) n) (p (f i)) refl e
+    where
+      go : (some p (map f (span (suc i) n)) ≡ true → (j : ℕ) × (suc i ≤ j) × (j < suc i + n) × (p (f j) ≡ true)) →
+          (b : Bool) → p (f i) ≡ b → (b || some p (map f (span (suc i) n))) ≡ true →
+          (j : ℕ) × (i ≤ j) × (j < i + suc n) × (p (f j) ≡ true)
+      go later true q e′ = (i, omega arith, omega arith, q)
+      go later false q e′ = let (j, l, h, here) = later e′ in (j, omega arith, omega arith, here)
+
   first-run : (i n r : ℕ) (d : A) → i ≤ r → r < i + n → p (f r) ≡ true →
       ((j : ℕ) → i ≤ j → j < r → p (f j) ≡ false) → first p (map f (span i n)) d ≡ f r
   unfolding first span
@@ -58,6 +69,10 @@ module _ (k : ℕ) (cells : List ℕ) (p : Clause → Bool) where
   pub held-none : ((i : ℕ) → i < k → p (clauseAt cells i) ≡ false) → some p (held k cells) ≡ false
   unfolding held
   held-none h = some-run p (clauseAt cells) 0 k (λ i l r. h i (omega arith))
+
+  pub held-some : some p (held k cells) ≡ true → (i : ℕ) × (i < k) × (p (clauseAt cells i) ≡ true)
+  unfolding held
+  held-some e = let (i, l, h, here) = some-at p (clauseAt cells) 0 k e in (i, omega arith, here)
 
   pub held-first : (r : ℕ) (d : Clause) → r < k → p (clauseAt cells r) ≡ true →
       ((i : ℕ) → i < r → p (clauseAt cells i) ≡ false) → first p (held k cells) d ≡ clauseAt cells r

@@ -2,7 +2,7 @@
 -- literal by literal.
 use mathlib.Core.Path.{_≡_, refl, sym, ap, _∙_}
 use mathlib.Core.Logic.{⊎-elim}
-use mathlib.Core.Bool.{Bool, false}
+use mathlib.Core.Bool.{Bool}
 use mathlib.Core.List.{List, [], _∷_, _++_, map, map-append, List·Memᴰ·head, List·Memᴰ·tail, List·Memᴰ·cases-cons, List·Memᴰ·not-nil}
 use Prim.Native.Nat.{ℕ, zero, suc, _+_, _*_, _≤_, _<_}
 use native.Mathlib.Nat.{zero-add, suc-add, add-zero, add-suc, le-trans}
@@ -10,7 +10,7 @@ use native.Mathlib.Numerals.{add-one}
 use native.Mathlib.Omega.{arith}
 use lib.ListN.{length, getD, take, drop, length-map, length-drop, List·getD-map, List·getD-eq-default, drop-of-length-le}
 use lib.Seq.{take-take, take-nil, getD-take, length-take-le, drop-cons, getD-drop}
-use Rattle.words.specs.Lists.{In, some, keep, count, span}
+use Rattle.words.specs.Lists.{In, keep, count, span}
 use Rattle.words.specs.ListLaws.{in-span, length-span, getD-span}
 use Rattle.words.specs.BitLaws.{digit}
 use Rattle.words.specs.CountLaws.{count-cons}
@@ -151,16 +151,6 @@ module _ {cells : List ℕ} {i : ℕ} (row : Row cells i) where
 
   pub row-in : (j : ℕ) → j < lengthAt cells i → In (literalOf (literalAt cells i j)) (clauseAt cells i)
   row-in j h = in-drop j (clauseAt cells i) _ (rw (row-cons j h) (List·Memᴰ·head refl))
-
-  -- a test that no literal passes
-  pub row-none : (p : Literal → Bool) → ((j : ℕ) → j < lengthAt cells i → p (literalOf (literalAt cells i j)) ≡ false) →
-      some p (clauseAt cells i) ≡ false
-  unfolding some
-  row-none p h = go (lengthAt cells i) 0 (omega arith)
-    where
-      go : (n j : ℕ) → n + j ≡ lengthAt cells i → some p (drop j (clauseAt cells i)) ≡ false
-      go zero j e = rw (row-end j (omega arith))
-      go (suc n) j e = rw (row-cons j (omega arith), h j (omega arith)) (go n (suc j) (omega arith))
 
   -- the literals that pass a test are counted one by one
   pub row-count : (p : Literal → Bool) (j : ℕ) → j < lengthAt cells i →

@@ -1,30 +1,27 @@
--- The laws of counts in planes: the clauses of a word that pass a test, and the first of them; what a pass over all words finds; and
--- two rows that move the numbers of all clauses.
+-- The laws of counts in planes: the clauses of a word that pass a test, and the first of them; and two rows that move
+-- the numbers of all clauses.
 use mathlib.Core.Path.{_≡_, refl, sym, ap, ap₂, _∙_}
-use mathlib.Core.Logic.{_⊎_, inl, inr}
 use mathlib.Core.Bool.{Bool, true, false, not, _&&_, and-true, true≢false}
 use mathlib.Core.List.{List}
 use Prim.Native.Nat.{ℕ, _+_, _*_, _/_, _%_, _^_, _≤_, _<_}
-use native.Mathlib.Nat.{eq-or-lt-of-le}
 use native.Mathlib.Omega.{arith}
 use lib.Bits.{bitAnd}
 use lib.Dec.{eqb, leb, ltb}
-use lib.ListN.{length, getD, set}
-use lib.Seq.{getD-set-same, getD-set-other}
+use lib.ListN.{getD}
 use lib.Count.{trailingZeros, trailing-le}
 use borrow.Author.Tests.{lt-ltb, le-ltb, le-leb, ltb-true, ltb-false}
-use Rattle.words.specs.Lists.{some, every}
-use Rattle.words.specs.ListLaws.{and-left, in-some}
+use Rattle.words.specs.Lists.{every}
+use Rattle.words.specs.ListLaws.{and-left}
 use Rattle.words.specs.Bits.{bit}
 use Rattle.words.specs.BitLaws.{digit, bit-zero, trailing-below, trailing-at}
 use Rattle.formula.specs.Formula.{Clause}
 use Rattle.formula.specs.Counts.{holds, Steps}
 use Rattle.formula.specs.Machine.{clauseAt, held}
-use Rattle.formula.specs.HeldLaws.{held-every, held-fails, held-none}
-use Rattle.formula.specs.TableLaws.{held-in}
+use Rattle.formula.specs.HeldLaws.{held-every, held-fails}
 use Rattle.planes.specs.declared.Planes.{Planes}
-use Rattle.planes.specs.declared.Picks.{Picks}
-use Rattle.planes.specs.Machine.{lanes, rowWords, laneCount, rowCount, wordsOf, countAt, planesAt, Counts, Passing, First, Lanes, firstZero, bothZero, zeroFew, oneZero, passes, Told, Picked, lowest, lane, Occurs, Moved, ZerosAfter, Shifted}
+use Rattle.planes.specs.declared.Kind.{Kind}
+use Rattle.planes.specs.declared.Kind.the-variants.{Zero, Few, Lone, Both}
+use Rattle.planes.specs.Machine.{lanes, rowWords, laneCount, rowCount, wordsOf, countAt, planesAt, Counts, Passing, First, passes, testOf, Told, lane, Occurs, Moved, ZerosAfter, Shifted}
 use Rattle.planes.specs.LaneLaws.{bit-and}
 
 -- ---- the lanes of a literal
@@ -36,6 +33,12 @@ module _ {k : ℕ} {cells occ : List ℕ} (o : Occurs k cells occ) (w i : ℕ) (
 
   pub lane-past : k ≤ i → i < laneCount → lane occ w i ≡ false
   lane-past h r = o .each w i l r ∙ rw (le-ltb i k h)
+
+  -- a clause's lane in word v of the row
+  pub bit-held : {v : ℕ} → i < k → k ≤ laneCount → i / lanes ≡ v →
+      bit (getD occ (w * rowWords + v) 0) (i % lanes) ≡ holds w (clauseAt cells i)
+  unfolding lane
+  bit-held h r e = rw e at (lane-held h r)
 
 -- ---- the clauses of a word that pass a test
 
@@ -124,73 +127,13 @@ passing-also {z = z} p z′ also =
       rest = λ i h e. bit-and z z′ (i % lanes) ∙ ap (λ (b : Bool). b && bit z′ (i % lanes)) (p .rest i h e);
     }
 
--- ---- a pass over all clauses
-
--- What is found from word w on, where no clause from there on has both numbers 0.
-pub record PickedFrom (k : ℕ) (cells : List ℕ) (count count′ : Clause → ℕ) (w : ℕ) (r : Picks) (row : List ℕ) : Type 0 where
-  pub none : First (lanes * w) k (passes bothZero cells count count′) k
-  pub first : First (lanes * w) k (passes firstZero cells count count′) (r .first)
-  pub few : First (lanes * w) k (passes zeroFew cells count count′) (r .few)
-  pub lone : First (lanes * w) k (passes oneZero cells count count′) (r .lone)
-  pub each : (v : ℕ) → w ≤ v → v < wordsOf k → Passing k (passes oneZero cells count count′) v (getD row v 0)
-
-module _ {k : ℕ} {cells : List ℕ} {count count′ : Clause → ℕ} where
-  pub picked-none : (row : List ℕ) → PickedFrom k cells count count′ (wordsOf k) (record { first = k; few = k; lone = k }) row
-  picked-none row =
-      record {
-        none = first-end (omega arith);
-        first = first-end (omega arith);
-        few = first-end (omega arith);
-        lone = first-end (omega arith);
-        each = λ v l h. absurd (omega arith);
-      }
-
-  pub picked-all : {r : Picks} {row : List ℕ} → PickedFrom k cells count count′ 0 r row → Picked k cells count count′ r row
-  picked-all p = lowest (p .none) (p .first) (p .few) (p .lone) (record { each = λ w. p .each w (omega arith) })
-
--- the word stored in its place of the row
-pub row-stored : {k : ℕ} {test : ℕ → Bool} {w z : ℕ} (row : List ℕ) → w < length row →
-    ((v : ℕ) → w + 1 ≤ v → v < wordsOf k → Passing k test v (getD row v 0)) → Passing k test w z →
-    (v : ℕ) → w ≤ v → v < wordsOf k → Passing k test v (getD (set row w z) v 0)
-row-stored {k} {test} {w} {z} row room later here v l h = go (eq-or-lt-of-le l)
-  where
-    go : (w ≡ v) ⊎ (w < v) → Passing k test v (getD (set row w z) v 0)
-    go (inl e) = rw (← e, getD-set-same row w z 0 room) here
-    go (inr d) = rw (getD-set-other row w v z 0 (λ e. omega arith)) (later v (omega arith) h)
-
--- ---- the clauses in some lanes that hold a literal
-
-module _ {k x : ℕ} {cells occ row : List ℕ} (test : Clause → Bool) (room : k ≤ laneCount) (l : x < rowCount)
-    (o : Occurs k cells occ) (p : Lanes k (λ i. test (clauseAt cells i)) row) where
-  abbrev isShared : Clause → Bool
-  isShared c = holds x c && test c
-
-  -- the lanes of word w
-  passing-shared : (w : ℕ) → w < wordsOf k →
-      Passing k (λ i. isShared (clauseAt cells i)) w (bitAnd (getD occ (x * rowWords + w) 0) (getD row w 0))
-  unfolding lane
-  passing-shared w h =
-      passing-also
-      (record {
-        each = λ i u e. rw e at (lane-held o x i l u room);
-        rest = λ i u e. rw e at (lane-past o x i l u (omega arith));
-      })
-      (getD row w 0)
-      (p .each w h .each)
-
-  pub some-shared : (w : ℕ) → w < wordsOf k → let z = bitAnd (getD occ (x * rowWords + w) 0) (getD row w 0) in
-      (z ≡ 0 → ⊥) → z < 2 ^ lanes → some isShared (held k cells) ≡ true
-  some-shared w h set fits =
-      let (used, f) = passing-lowest (passing-shared w h) set fits in
-      in-some isShared (held k cells) _ (held-in k cells _ used) (f .here used)
-
-  pub none-shared : ((w : ℕ) → w < wordsOf k → bitAnd (getD occ (x * rowWords + w) 0) (getD row w 0) ≡ 0) →
-      some isShared (held k cells) ≡ false
-  none-shared clear =
-      held-none k cells isShared (λ i h.
-      let w = i / lanes in
-      let u : w < wordsOf k = omega arith in
-      passing-clear (passing-shared w u) (clear w u) i (omega arith) (omega arith) h)
+-- no kind of clauses has the numbers 1 and 1
+pub kind-past : (kind : Kind) → testOf kind 1 1 ≡ false
+unfolding testOf
+kind-past Zero = refl
+kind-past Few = refl
+kind-past Lone = refl
+kind-past Both = refl
 
 -- ---- two rows
 

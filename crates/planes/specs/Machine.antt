@@ -1,20 +1,20 @@
 -- What the machine's words hold: two numbers of each clause crosswise, 64 clauses to a word, whatever is counted; and which clauses
--- hold a literal.
+-- hold a literal, and which variables a clause names.
 use mathlib.Core.Path.{_≡_}
 use mathlib.Core.Bool.{Bool, true, false, not, _&&_, _||_}
 use mathlib.Core.List.{List}
-use Prim.Native.Nat.{ℕ, zero, suc, _+_, _-_, _*_, _/_, _%_, _≤_, _<_}
+use Prim.Native.Nat.{ℕ, zero, suc, _+_, _-_, _*_, _/_, _%_, _^_, _≤_, _<_}
 use lib.Dec.{eqb, leb, ltb}
 use lib.ListN.{length, getD}
 use Rattle.words.specs.Lists.{every}
 use Rattle.words.specs.Bits.{bit, width}
 use Rattle.words.specs.BitLaws.{digit}
-use Rattle.formula.specs.Formula.{Clause}
+use Rattle.formula.specs.Formula.{Clause, names}
 use Rattle.formula.specs.Counts.{signCount, signWord, holds, Steps}
 use Rattle.formula.specs.Machine.{Table, clauseAt, held}
 use Rattle.planes.specs.declared.Planes.{Planes}
-use Rattle.planes.specs.declared.Tests.{Tests}
-use Rattle.planes.specs.declared.Picks.{Picks}
+use Rattle.planes.specs.declared.Kind.{Kind}
+use Rattle.planes.specs.declared.Kind.the-variants.{Zero, Few, Lone, Both}
 
 -- ---- sizes
 
@@ -34,8 +34,12 @@ laneCount = lanes * rowWords
 abbrev pub rowCount : ℕ
 rowCount = 2 * width + 2
 
+-- The rows come first in the table, then two words for each clause: the set of its variables.
+abbrev pub setsFrom : ℕ
+setsFrom = rowCount * rowWords
+
 abbrev pub occurrenceCells : ℕ
-occurrenceCells = rowCount * rowWords
+occurrenceCells = setsFrom + 2 * laneCount
 
 -- Two counters keep a number below 16 each for every clause. A counter has a slot for each word of clauses, from its first slot on.
 abbrev pub firstCounter : ℕ
@@ -91,10 +95,6 @@ pub record First (i k : ℕ) (test : ℕ → Bool) (r : ℕ) : Type 0 where
   pub before : (j : ℕ) → i ≤ j → j < r → test j ≡ false
   pub here : r < k → test r ≡ true
 
--- In a row of words the lanes of the k clauses that pass the test are set.
-pub record Lanes (k : ℕ) (test : ℕ → Bool) (words : List ℕ) : Type 0 where
-  pub each : (w : ℕ) → w < wordsOf k → Passing k test w (getD words w 0)
-
 -- Tests of a clause's two numbers: the first is 0; both are; the first is 0 and the second at most 2; the first is 1 and the second 0.
 abbrev pub firstZero : ℕ → ℕ → Bool
 firstZero a b = eqb a 0
@@ -112,24 +112,20 @@ oneZero a b = eqb a 1 && eqb b 0
 abbrev pub passes : (ℕ → ℕ → Bool) → List ℕ → (Clause → ℕ) → (Clause → ℕ) → ℕ → Bool
 passes t cells count count′ i = t (count (clauseAt cells i)) (count′ (clauseAt cells i))
 
+-- the test of each kind of clauses
+unfoldable pub testOf : Kind → ℕ → ℕ → Bool
+testOf Zero = firstZero
+testOf Few = zeroFew
+testOf Lone = oneZero
+testOf Both = bothZero
+
+-- clause i is of the kind, and holds the literal, where the word stands for one
+abbrev pub wanted : Kind → ℕ → List ℕ → (Clause → ℕ) → (Clause → ℕ) → ℕ → Bool
+wanted kind x cells count count′ i = passes (testOf kind) cells count count′ i && (eqb x 0 || holds x (clauseAt cells i))
+
 -- The lanes of z are those of word w in which the numbers of two counters pass the test.
 pub record Told (t : ℕ → ℕ → Bool) (planes : List ℕ) (q q′ w z : ℕ) : Type 0 where
   pub each : (j : ℕ) → j < lanes → bit z j ≡ t (countIn (planesAt planes (q + w)) j) (countIn (planesAt planes (q′ + w)) j)
-
--- The four tests of the clauses of word w.
-pub record Tested (planes : List ℕ) (w : ℕ) (r : Tests) : Type 0 where
-  pub zero : Told firstZero planes firstCounter secondCounter w (r .zero)
-  pub both : Told bothZero planes firstCounter secondCounter w (r .both)
-  pub few : Told zeroFew planes firstCounter secondCounter w (r .few)
-  pub lone : Told oneZero planes firstCounter secondCounter w (r .lone)
-
--- What a pass over all clauses answers: more than k where some clause has both numbers 0, and otherwise the first clause that passes
--- each of the other tests, if there is one, and the lanes of all that pass the last.
-pub data Picked (k : ℕ) (cells : List ℕ) (count count′ : Clause → ℕ) (r : Picks) (lone : List ℕ) : Type 0 where
-  both : (i : ℕ) → i < k → passes bothZero cells count count′ i ≡ true → k < r .first → Picked k cells count count′ r lone
-  lowest : First 0 k (passes bothZero cells count count′) k → First 0 k (passes firstZero cells count count′) (r .first) →
-      First 0 k (passes zeroFew cells count count′) (r .few) → First 0 k (passes oneZero cells count count′) (r .lone) →
-      Lanes k (passes oneZero cells count count′) lone → Picked k cells count count′ r lone
 
 -- ---- the clauses that hold a literal
 
@@ -143,13 +139,29 @@ pub record Readable (k : ℕ) (cells : List ℕ) : Type 0 where
   pub small : n ≤ width
   pub table : Table n k cells
 
--- The occurrence table: in the row of each literal the lanes of the clauses that hold it are set.
+-- the set of variables of clause i
+unfoldable pub setAt : List ℕ → ℕ → ℕ
+setAt occ i = getD occ (setsFrom + 2 * i + 1) 0 * 2 ^ 64 + getD occ (setsFrom + 2 * i) 0
+
+-- a set has just the variables that the clause names
+abbrev pub NamedBy : ℕ → Clause → Type 0
+NamedBy m c = (v : ℕ) → v < width → bit m v ≡ names (v + 1) c
+
+-- The occurrence table: in the row of each literal the lanes of the clauses that hold it are set, and each clause has its set.
 pub record Occurs (k : ℕ) (cells occ : List ℕ) : Type 0 where
   pub each : (w i : ℕ) → w < rowCount → i < laneCount → lane occ w i ≡ (ltb i k && holds w (clauseAt cells i))
+  pub sets : (i v : ℕ) → i < k → v < width → bit (setAt occ i) v ≡ names (v + 1) (clauseAt cells i)
 
 -- The table after beside the one before: lane i is set too in the rows of the literals of c.
 pub record Marked (i : ℕ) (c : Clause) (before after : List ℕ) : Type 0 where
   pub each : (w u : ℕ) → w < rowCount → u < laneCount → lane after w u ≡ (lane before w u || (holds w c && eqb u i))
+  pub sets : (u : ℕ) → setAt after u ≡ setAt before u
+
+-- The table after beside the one before: clause i has the set m, and all else is as it was.
+pub record SetStored (i m : ℕ) (before after : List ℕ) : Type 0 where
+  pub here : setAt after i ≡ m
+  pub other : (u : ℕ) → (u ≡ i → ⊥) → setAt after u ≡ setAt before u
+  pub rows : (w u : ℕ) → w < rowCount → u < laneCount → lane after w u ≡ lane before w u
 
 -- ---- one up in a row, one down in another
 

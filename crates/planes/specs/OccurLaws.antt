@@ -1,23 +1,27 @@
--- The laws of the occurrence table: it is built clause by clause, and literal by literal.
+-- The laws of the occurrence table: it is built clause by clause, and literal by literal; its rows and its sets stand apart.
 use mathlib.Core.Path.{_≡_, refl, sym, ap, _∙_}
 use mathlib.Core.Bool.{Bool, true, false, _&&_, _||_, and-true, and-false, or-false, or-assoc, and-or-distrib-right}
 use mathlib.Core.List.{List, [], _∷_, _++_, map, map-append}
-use Prim.Native.Nat.{ℕ, zero, suc, _+_, _*_, _/_, _%_, _^_, _<_}
+use Prim.Native.Nat.{ℕ, zero, suc, _+_, _-_, _*_, _/_, _%_, _^_, _≤_, _<_}
 use native.Mathlib.Numerals.{add-one}
 use native.Mathlib.Omega.{arith}
 use lib.Dec.{eqb, ltb}
-use lib.ListN.{length, getD, take, drop, set, replicate, length-drop}
+use lib.ListN.{length, getD, take, drop, set, replicate, length-drop, length-set}
 use lib.Seq.{getD-set-same, getD-set-other, take-suc, getD-drop}
-use lib.Bits.{bitOr}
+use lib.Bits.{bitOr, xor-zero-l}
 use borrow.Author.Tests.{eq-eqb, ne-eqb, eqb-true, eqb-false, lt-ltb, le-ltb, ltb-true, ltb-false}
+use borrow.Author.Count.{below-more}
 use Rattle.words.specs.Lists.{some}
 use Rattle.words.specs.ListLaws.{some-last}
-use Rattle.words.specs.Bits.{bit}
+use Rattle.words.specs.Bits.{bit, toggle, width}
 use Rattle.words.specs.BitLaws.{bit-zero, same-test, bit-power}
-use Rattle.formula.specs.Formula.{Clause, literalOf}
+use Rattle.words.specs.Machine.{setOf}
+use Rattle.words.specs.declared.Set.{Set}
+use Rattle.formula.specs.Formula.{Clause, names, literalOf}
 use Rattle.formula.specs.Machine.{rowCells, cellCount, clauseAt, literalAt}
-use Rattle.planes.specs.Machine.{lanes, rowWords, laneCount, rowCount, occurrenceCells, lane, Occurs, Marked}
+use Rattle.planes.specs.Machine.{lanes, rowWords, laneCount, rowCount, setsFrom, occurrenceCells, lane, setAt, NamedBy, Occurs, Marked, SetStored}
 use Rattle.formula.specs.Counts.{holds}
+use Rattle.formula.specs.SheetLaws.{names-snoc}
 use Rattle.formula.specs.ParseAccepted.{word-literal}
 use Rattle.planes.specs.LaneLaws.{bit-or, one-shl}
 use Rattle.formula.specs.CountLaws.{is}
@@ -58,11 +62,47 @@ module _ (xs : List ℕ) (x i : ℕ) (row : x < rowCount) (room : i < laneCount)
           let apart : (at ≡ a → ⊥) = λ q. eqb-false a at e (sym q) in
           rw (getD-set-other xs a at new 0 apart, none (eqb x w) refl apart) (sym (or-false (bit (getD xs at 0) (u % lanes))))
 
+-- ---- one cell set
+
+module _ (xs : List ℕ) (a x : ℕ) where
+  -- a cell of the rows is none of the sets,
+  sets-aside : a < setsFrom → (u : ℕ) → setAt (set xs a x) u ≡ setAt xs u
+  unfolding setAt
+  sets-aside l u =
+      rw (getD-set-other xs a (setsFrom + 2 * u + 1) x 0 (λ e. omega arith), getD-set-other xs a (setsFrom + 2 * u) x 0 (λ e. omega arith))
+
+  -- nor the other way.
+  rows-aside : setsFrom ≤ a → (w u : ℕ) → w < rowCount → u < laneCount → lane (set xs a x) w u ≡ lane xs w u
+  unfolding lane
+  rows-aside l w u row room = rw (getD-set-other xs a (w * rowWords + u / lanes) x 0 (λ e. omega arith))
+
+-- the two words of a set
+pub set-stored : (xs : List ℕ) (i : ℕ) (s : Set) → i < laneCount → length xs ≡ occurrenceCells →
+    SetStored i (setOf s) xs (set (set xs (setsFrom + 2 * i) (s .low)) (setsFrom + 2 * i + 1) (s .high))
+unfolding setAt setOf
+set-stored xs i s room size =
+    let a : ℕ = setsFrom + 2 * i in
+    let ys = set xs a (s .low) in
+    record {
+      here = rw (
+        getD-set-same ys (a + 1) (s .high) 0 (simp length-set (omega arith)),
+        getD-set-other ys (a + 1) a (s .high) 0 (λ e. omega arith),
+        getD-set-same xs a (s .low) 0 (omega arith),
+      );
+      other = λ u d. rw (
+        getD-set-other ys (a + 1) (setsFrom + 2 * u + 1) (s .high) 0 (λ e. d (omega arith)),
+        getD-set-other xs a (setsFrom + 2 * u + 1) (s .low) 0 (λ e. omega arith),
+        getD-set-other ys (a + 1) (setsFrom + 2 * u) (s .high) 0 (λ e. omega arith),
+        getD-set-other xs a (setsFrom + 2 * u) (s .low) 0 (λ e. d (omega arith)),
+      );
+      rows = λ w u l h. rows-aside ys (a + 1) (s .high) (omega arith) w u l h ∙ rows-aside xs a (s .low) (omega arith) w u l h;
+    }
+
 -- ---- clause by clause
 
 pub marked-none : (i : ℕ) (xs : List ℕ) → Marked i [] xs xs
 unfolding holds some
-marked-none i xs = record { each = λ w u l h. sym (or-false (lane xs w u)) }
+marked-none i xs = record { each = λ w u l h. sym (or-false (lane xs w u)); sets = λ u. refl }
 
 marked-more : (i x : ℕ) (c : Clause) (xs ys : List ℕ)
     (row : x < rowCount) (room : i < laneCount) (size : length ys ≡ occurrenceCells) → Marked i c xs ys →
@@ -74,6 +114,7 @@ marked-more i x c xs ys row room size m =
           lane-set ys x i row room size w u l h
           ∙ rw (m .each w u l h, some-last (is w) c (literalOf x), word-literal x)
           (joins (lane xs w u) (some (is w) c) (eqb x w) (eqb u i));
+      sets = λ u. sets-aside ys (x * rowWords + i / lanes) _ (omega arith) u ∙ m .sets u;
     }
   where
     joins : (b y z e : Bool) → ((b || (y && e)) || (z && e)) ≡ (b || ((y || z) && e))
@@ -87,12 +128,22 @@ zeros-at (suc n) (suc a) = zeros-at n a
 pub occurs-none : (n : ℕ) (cells : List ℕ) → Occurs 0 cells (replicate n 0)
 unfolding lane
 occurs-none n cells =
-    record { each = λ w i l h. rw (zeros-at n (w * rowWords + i / lanes), bit-zero (i % lanes), le-ltb i 0 (omega arith)) }
+    record {
+      each = λ w i l h. rw (zeros-at n (w * rowWords + i / lanes), bit-zero (i % lanes), le-ltb i 0 (omega arith));
+      sets = λ i v l. absurd (omega arith);
+    }
 
-pub occurs-more : (k : ℕ) (cells xs ys : List ℕ) → Occurs k cells xs → Marked k (clauseAt cells k) xs ys →
-    Occurs (k + 1) cells ys
-occurs-more k cells xs ys o m =
-    record { each = λ w i l h. m .each w i l h ∙ rw (o .each w i l h) (go w i (ltb i k) refl (eqb i k) refl) }
+pub occurs-more : (k m : ℕ) (cells xs ys zs : List ℕ) → Occurs k cells xs → Marked k (clauseAt cells k) xs ys →
+    NamedBy m (clauseAt cells k) → SetStored k m ys zs → Occurs (k + 1) cells zs
+occurs-more k m cells xs ys zs o marked named stored =
+    record {
+      each = λ w i l h.
+          stored .rows w i l h ∙ marked .each w i l h ∙ rw (o .each w i l h) (go w i (ltb i k) refl (eqb i k) refl);
+      sets = λ i v l h.
+          below-more (λ i. bit (setAt zs i) v ≡ names (v + 1) (clauseAt cells i)) k
+          (λ i l. rw (stored .other i (λ e. omega arith), marked .sets i) (o .sets i v l h))
+          (rw (stored .here) (named v h)) i l;
+    }
   where
     here : ℕ → ℕ → Bool
     here w i = holds w (clauseAt cells i)
@@ -129,5 +180,22 @@ pub mark-step : (cells xs ys : List ℕ) (i j : ℕ) → length cells ≡ cellCo
     let at = literalAt cells i j * rowWords + i / lanes in
     Marked i (firstOf cells i (j + 1)) xs (set ys at (bitOr (getD ys at 0) (1 * 2 ^ (i % lanes) % 2 ^ lanes)))
 mark-step cells xs ys i j size room within row size′ m =
-    rw (first-more cells i j size within, one-shl (i % lanes) (omega arith))
+    rw (first-more cells i j size within, one-shl lanes (i % lanes) (omega arith))
     (marked-more i (literalAt cells i j) (firstOf cells i j) xs ys row room size′ m)
+
+-- ---- the variables of a clause
+
+pub named-none : (m : ℕ) → m ≡ 0 → NamedBy m []
+unfolding names some
+named-none m e v h = rw e (bit-zero v)
+
+-- one turn of the machine's loop: `own` has the literal's variable
+pub named-step : (cells : List ℕ) (i j m own m′ : ℕ) → length cells ≡ cellCount → rowCells * i + 1 + j < cellCount →
+    2 ≤ literalAt cells i j → NamedBy m (firstOf cells i j) → own ≡ toggle 0 (literalAt cells i j / 2 - 1) →
+    ((v : ℕ) → v < width → bit m′ v ≡ (bit m v || bit own v)) → NamedBy m′ (firstOf cells i (j + 1))
+unfolding toggle literalOf
+named-step cells i j m own m′ size within known named e joined v h =
+    let x = literalAt cells i j in
+    let here : eqb (x / 2 - 1) v ≡ eqb (x / 2) (v + 1) = same-test (x / 2 - 1) v (x / 2) (v + 1) (λ q. omega arith) (λ q. omega arith) in
+    joined v h
+    ∙ rw (first-more cells i j size within, names-snoc (v + 1) (firstOf cells i j), named v h, e, xor-zero-l (2 ^ (x / 2 - 1)), bit-power, here)

@@ -1,16 +1,19 @@
 // Two numbers for each clause in bit planes, moved at each flip; what is counted is the caller's.
+mod clause_sets;
+
+use clause_sets::clause_set;
+use clause_sets::put_set;
+pub use clause_sets::set_at;
 ghost use mathlib.Core.Path.{_≡_};
-ghost use mathlib.Core.Bool.{Bool, true, false, _&&_};
+ghost use mathlib.Core.Bool.{true, false, _||_};
 ghost use mathlib.Core.List.{List};
 ghost use Prim.Native.Nat.{ℕ, _+_, _*_, _≤_, _<_};
 ghost use lib.Dec.{eqb, leb};
 ghost use lib.ListN.{length, getD};
-ghost use Rattle.words.specs.Lists.{some};
 ghost use Rattle.words.specs.Bits.{bit, width};
 ghost use Rattle.formula.specs.Formula.{lengthLimit, Clause};
-ghost use Rattle.formula.specs.Counts.{holds};
-ghost use Rattle.formula.specs.Machine.{cellCount, lengthAt, literalAt, clauseAt, held};
-ghost use Rattle.planes.specs.Machine.{lanes, rowWords, laneCount, rowCount, occurrenceCells, firstCounter, secondCounter, slots, planeCells, countIn, planesAt, Counts, Passing, First, Lanes, Tested, Picked, Readable, Occurs, Marked, Moved, ZerosAfter, Stored, ShiftedSlot, Shifted, AboveZero, Summed, Starts};
+ghost use Rattle.formula.specs.Machine.{cellCount, lengthAt, literalAt, clauseAt};
+ghost use Rattle.planes.specs.Machine.{lanes, rowWords, laneCount, rowCount, occurrenceCells, firstCounter, secondCounter, slots, planeCells, countIn, planesAt, Counts, First, Told, testOf, wanted, Readable, Occurs, Marked, Moved, ZerosAfter, Stored, ShiftedSlot, Shifted, AboveZero, Summed, Starts};
 
 // The sizes of specs/Machine.antt: lanes of a word and of two words, words of a row, cells of the
 // occurrence table, slots of two counters, and cells of an array of planes.
@@ -20,7 +23,10 @@ const PAIR: usize = 2 * LANES;
 
 pub const ROW: usize = 16;
 
-pub const OCCURRENCES: usize = (2 * words::WIDTH as usize + 2) * ROW;
+// Where the sets begin in the occurrence table, two words for each clause.
+const SETS: usize = (2 * words::WIDTH as usize + 2) * ROW;
+
+pub const OCCURRENCES: usize = SETS + 2 * LANES * ROW;
 
 const SLOTS: usize = 2 * ROW;
 
@@ -101,20 +107,16 @@ impl Planes {
     }
 }
 
-// The clauses of a word by their two numbers: the first is 0; both are 0; the first is 0 and the
-// second at most 2; the first is 1 and the second 0.
-pub struct Tests {
-    pub zero: u64,
-    pub both: u64,
-    pub few: u64,
-    pub lone: u64,
-}
-
-// What a pass over all clauses finds: the numbers of the first clauses of three kinds, or k.
-pub struct Picks {
-    pub first: usize,
-    pub few: usize,
-    pub lone: usize,
+// The kinds of clauses by their two numbers.
+pub enum Kind {
+    // The first is 0.
+    Zero,
+    // The first is 0 and the second at most 2.
+    Few,
+    // The first is 1 and the second 0.
+    Lone,
+    // Both are 0.
+    Both,
 }
 
 // The planes of a slot.
@@ -170,6 +172,7 @@ pub fn occurrences(cells: &[u32; formula::CELLS], k: usize) -> [u64; OCCURRENCES
     let mut i: usize = 0;
     while i < k {
         mark(cells, i, &mut occ);
+        put_set(&mut occ, i, clause_set(cells, i));
         i += 1;
     }
     occ
@@ -281,117 +284,61 @@ pub fn shift(
     }
 }
 
-// The clauses of word w that pass each test.
-fn tests_at(planes: &[u64; PLANES], w: usize) -> Tests
+// The lanes of word w of the clauses of a kind.
+fn lanes_of(planes: &[u64; PLANES], w: usize, kind: Kind) -> u64
     requires { ⌜ w < rowWords ⌝ }
-    ensures { λ r. ⌜ Tested (now (planes .entry)) w r ⌝ }
+    ensures { λ r. ⌜ Told (testOf kind) (now (planes .entry)) firstCounter secondCounter w r ⌝ }
 {
     let first = slot_at(planes, FIRST + w);
-    let second = slot_at(planes, SECOND + w);
-    let zero = first.zeros();
-    let none = second.zeros();
-    let few = second.at_most_two();
-    Tests {
-        zero,
-        both: zero & none,
-        few: zero & few,
-        lone: first.ones() & none,
+    match kind {
+        Kind::Zero => first.zeros(),
+        Kind::Few => first.zeros() & slot_at(planes, SECOND + w).at_most_two(),
+        Kind::Lone => first.ones() & slot_at(planes, SECOND + w).zeros(),
+        Kind::Both => first.zeros() & slot_at(planes, SECOND + w).zeros(),
     }
 }
 
-// The first clause of word w in the lanes z, or else `later`.
-fn lowest(z: u64, w: usize, later: usize) -> usize
-    requires { ⌜ w < rowWords ⌝ }
-    ensures { λ r. ⌜ ((k : ℕ) (test : ℕ → Bool) → Passing k test w z → First (lanes * (w + 1)) k test later →
-        First (lanes * w) k test r) ⌝ }
+// The lanes of word w of the clauses that hold a literal, or all lanes where there is none to hold.
+fn holding(occ: &[u64; OCCURRENCES], literal: u32, w: usize) -> u64
+    requires { ⌜ (literal < rowCount) × (w < rowWords) ⌝ }
+    ensures { λ r. ⌜ ((j : ℕ) → j < lanes →
+        bit r j ≡ (eqb literal 0 || bit (getD (now (occ .entry)) (literal * rowWords + w) 0) j)) ⌝ }
 {
-    if z == 0 {
-        later
+    if literal == NO_LITERAL {
+        !0u64
     } else {
-        LANES * w + u64::trailing_zeros(z) as usize
+        occ[literal as usize * ROW + w]
     }
 }
 
-// More than k where some clause has both numbers 0; else the first clause of each kind, and the
-// lanes of all those with the numbers 1 and 0. From the last word to the first, so that the first
-// clause is met last.
-pub fn pick(planes: &[u64; PLANES], k: usize, lone: &mut [u64; ROW]) -> Picks
-    requires { ⌜ k ≤ laneCount ⌝ }
-    requires { ⌜ length (now lone) ≡ rowWords ⌝ }
-    ensures { λ r. ⌜ ((cells : List ℕ) (count count′ : Clause → ℕ) → Counts k cells firstCounter count (now (planes .entry)) →
-        Counts k cells secondCounter count′ (now (planes .entry)) → Picked k cells count count′ r (now (lone .exit))) ⌝ }
-{
-    let mut first = k;
-    let mut few = k;
-    let mut one = k;
-    let mut w = (k + (LANES - 1)) / LANES;
-    while 0 < w {
-        w -= 1;
-        let tests = tests_at(planes, w);
-        if tests.both != 0 {
-            return Picks {
-                first: k + 1,
-                few: k,
-                lone: k,
-            };
-        }
-        first = lowest(tests.zero, w, first);
-        few = lowest(tests.few, w, few);
-        one = lowest(tests.lone, w, one);
-        lone[w] = tests.lone;
-    }
-    Picks {
-        first,
-        few,
-        lone: one,
-    }
-}
-
-// The first clause from number `from` on whose first number is 0, or k.
-pub fn next_zero(planes: &[u64; PLANES], k: usize, from: usize) -> usize
-    requires { ⌜ (k ≤ laneCount) × (from ≤ k) ⌝ }
+// The first clause of a kind from number `from` on, of those that hold a literal (of all with
+// NO_LITERAL), or k.
+pub fn next(
+    occ: &[u64; OCCURRENCES],
+    k: usize,
+    literal: u32,
+    kind: Kind,
+    planes: &[u64; PLANES],
+    from: usize,
+) -> usize
+    requires { ⌜ (k ≤ laneCount) × (literal < rowCount) × (from ≤ k) ⌝ }
     ensures { λ r. ⌜ from ≤ r ⌝ }
-    ensures { λ r. ⌜ ((cells : List ℕ) (count : Clause → ℕ) → Counts k cells firstCounter count (now (planes .entry)) →
-        First from k (λ i. eqb (count (clauseAt cells i)) 0) r) ⌝ }
+    ensures { λ r. ⌜ ((cells : List ℕ) (count count′ : Clause → ℕ) → Occurs k cells (now (occ .entry)) →
+        Counts k cells firstCounter count (now (planes .entry)) → Counts k cells secondCounter count′ (now (planes .entry)) →
+        First from k (wanted kind literal cells count count′) r) ⌝ }
 {
     let words = (k + (LANES - 1)) / LANES;
     let mut w = from / LANES;
     let mut seen = past(from, w);
     while w < words {
-        let zeros = slot_at(planes, FIRST + w).zeros() & seen;
-        if zeros != 0 {
-            return LANES * w + u64::trailing_zeros(zeros) as usize;
+        let found = lanes_of(planes, w, kind) & holding(occ, literal, w) & seen;
+        if found != 0 {
+            return LANES * w + u64::trailing_zeros(found) as usize;
         }
         seen = !0u64;
         w += 1;
     }
     k
-}
-
-// Word w of a literal's row. A call's result is known to fit its type, which an element of an array
-// is not.
-fn row_word(occ: &[u64; OCCURRENCES], literal: u32, w: usize) -> u64
-    requires { ⌜ (literal < rowCount) × (w < rowWords) ⌝ }
-    ensures { λ r. ⌜ r ≡ getD (now (occ .entry)) (literal * rowWords + w) 0 ⌝ }
-{
-    occ[literal as usize * ROW + w]
-}
-
-// Whether some clause among these lanes holds a literal.
-pub fn shares(occ: &[u64; OCCURRENCES], k: usize, literal: u32, among: &[u64; ROW]) -> bool
-    requires { ⌜ (k ≤ laneCount) × (literal < rowCount) ⌝ }
-    ensures { λ r. ⌜ ((cells : List ℕ) (test : Clause → Bool) → Occurs k cells (now (occ .entry)) →
-        Lanes k (λ i. test (clauseAt cells i)) (now (among .entry)) → r ≡ some (λ c. holds literal c && test c) (held k cells)) ⌝ }
-{
-    let words = (k + (LANES - 1)) / LANES;
-    let mut w: usize = 0;
-    while w < words {
-        if row_word(occ, literal, w) & among[w] != 0 {
-            return true;
-        }
-        w += 1;
-    }
-    false
 }
 
 // Whether every first number would be above 0 after `shift` by these rows: the last level of a

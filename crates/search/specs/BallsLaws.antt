@@ -1,28 +1,39 @@
 -- The laws of the loop over the balls: the planes move from centre to centre, one toggle after the other.
 use mathlib.Core.Path.{_≡_, refl, sym, _∙_, subst}
 use mathlib.Core.Logic.{⊎-elim}
-use mathlib.Core.Bool.{Bool, not}
+use mathlib.Core.Bool.{Bool, false, true, not, and-true}
 use mathlib.Core.List.{List}
-use Prim.Native.Nat.{ℕ, _+_, _/_, _^_, _≤_, _<_}
+use Prim.Native.Nat.{ℕ, zero, suc, _+_, _/_, _^_, _≤_, _<_}
 use native.Mathlib.Nat.{lt-of-not-le, eq-or-lt-of-le, div-lt-iff-lt-mul, le-div-iff-mul-le, one-mul}
 use native.Mathlib.Omega.{arith}
 use lib.ListN.{length}
 use lib.Pow.{pow-pos}
+use Rattle.words.specs.Lists.{every}
+use Rattle.words.specs.ListLaws.{in-some}
 use Rattle.words.specs.Bits.{bit, toggle, width}
 use Rattle.words.specs.BitLaws.{not-same, bit-toggle-same, bit-toggle-other, bits-ext}
-use Rattle.words.specs.Machine.{bitsOf, FirstDifference}
+use Rattle.words.specs.Machine.{bitsOf, setOf, FirstDifference}
 use Rattle.formula.specs.Counts.{signWord}
 use Rattle.formula.specs.SignLaws.{sign-bit, sign-unmet}
+use Rattle.formula.specs.Machine.{Table, held, clauseAt}
+use Rattle.formula.specs.TableLaws.{held-in}
+use Rattle.formula.specs.HeldLaws.{held-fails}
+use Rattle.tree.specs.Explore.{none, plus, try, call, explore}
 use Rattle.tree.specs.declared.Found.{Found}
 use Rattle.tree.specs.declared.Found.the-variants.{None}
 use Rattle.tree.specs.Budget.{Answer}
 use Rattle.tree.specs.BudgetLaws.{settle, onward, onward-none, onward-stops, none-made, rest-ends, rest-goes-on}
 use Rattle.tree.specs.Machine.{answerIn}
-use Rattle.planes.specs.Machine.{planeCells}
+use Rattle.planes.specs.declared.Kind.the-variants.{Both}
+use Rattle.planes.specs.Machine.{planeCells, First, testOf, wanted}
 use Rattle.search.specs.declared.path.Path.{Path}
+use Rattle.search.specs.Ball.{State, reading, isTrue, isDead, ballTree, ballSearch}
 use Rattle.search.specs.Run.{Block, Search, ball, centreAt, centreCount, summedRadius}
+use Rattle.search.specs.ReadingLaws.{dead-false, dead-reading}
+use Rattle.search.specs.RuleLaws.{rule-dead}
+use Rattle.search.specs.ForcedLaws.{dead-centred, standing-centre}
 use Rattle.search.specs.CallLaws.{ball-some}
-use Rattle.search.specs.Machine.{stateIn, centred, callFrom, Shows, Toggles, Moves, searchIn, ballsFrom, Before}
+use Rattle.search.specs.Machine.{stateIn, centred, callFrom, Shows, Standing, Forces, Toggles, Moves, Reaching, searchIn, ballsFrom, Before}
 
 -- ---- one bit
 
@@ -63,6 +74,53 @@ module _ (w m v : ℕ) (d : FirstDifference width m w v) where
   pub difference-none : (n : ℕ) → n ≤ v → m < 2 ^ n → w < 2 ^ n → m ≡ w
   difference-none n l p q = bits-ext n m w p q (λ u h. d .before u (omega arith))
 
+-- ---- the flips of a ball
+
+module _ (k : ℕ) (cells : List ℕ) where
+  -- Where a clause is dead a call makes no branch, however many flips it has.
+  call-dead : (s : State) (i : ℕ) → i < k → isDead s (clauseAt cells i) ≡ true → (r : ℕ) → callFrom k cells r s ≡ none 1
+  unfolding callFrom ballSearch ballTree explore call plus try
+  call-dead s i h e r = go r
+    where
+      failing : every (isTrue s) (held k cells) ≡ false
+      failing = held-fails k cells (isTrue s) i h (dead-false s _ e)
+
+      go : (n : ℕ) → callFrom k cells n s ≡ none 1
+      go zero = rw failing
+      go (suc n) = rw (failing, rule-dead (held k cells) s (in-some (isDead s) (held k cells) _ (held-in k cells i h) e))
+
+  module _ (radius i : ℕ)
+      (f : First 0 k (wanted Both 0 cells (λ c. reading (centred 0) c .met) (λ c. reading (centred 0) c .«open»)) i) where
+    -- both numbers of a clause are 0 exactly if it is dead, at whichever centre
+    told : (m j : ℕ) → isDead (centred m) (clauseAt cells j)
+        ≡ wanted Both 0 cells (λ c. reading (centred 0) c .met) (λ c. reading (centred 0) c .«open») j
+    unfolding testOf
+    told m j =
+        dead-centred m 0 (clauseAt cells j) ∙ dead-reading (centred 0) (clauseAt cells j) ∙ sym (and-true _)
+
+    pub reaching-all : i ≡ k → Reaching k cells radius radius
+    reaching-all e = record { same = λ m. refl; alive = λ some m j h. told m j ∙ f .before j (omega arith) (omega arith) }
+
+    pub reaching-none : (i ≡ k → ⊥) → Reaching k cells radius 0
+    reaching-none e =
+        let inside : i < k = omega (arith, f .within) in
+        record {
+          same = λ m. let dead = call-dead (centred m) i inside (told m i ∙ f .here inside) in dead 0 ∙ sym (dead radius);
+          alive = λ some m j h. absurd (omega arith);
+        }
+
+-- ---- the path at a centre
+
+pub path-centred : (p : Path) → setOf (p .flipped) ≡ 0 → stateIn p ≡ centred (bitsOf (p .assignment))
+unfolding stateIn
+path-centred p e = rw e
+
+-- what its call asks for, where nothing was forced before
+pub path-stands : {k : ℕ} {cells : List ℕ} {radius r m : ℕ} → Table width k cells → Reaching k cells radius r → 0 < r →
+    (s : State) → s ≡ centred m → (b q : ℕ) → b ≡ 0 → Forces k cells s 0 b q → Standing k cells (centred m) q
+path-stands {k} {cells} {m = m} table reach some s e b q z forces =
+    standing-centre k cells table m q (reach .alive some m) (rw (e, z) at forces)
+
 -- ---- the balls
 
 -- where the number of a centre leaves nothing, there is a ball with that number, and otherwise there is none
@@ -82,10 +140,10 @@ module _ (k : ℕ) (cells : List ℕ) (bs : List Block) where
   q = searchIn k cells bs
 
   -- a call at the centre is the ball's search
-  pub ball-call : (i reach : ℕ) (p : Path) → bitsOf (p .assignment) ≡ centreAt bs i → bitsOf (p .flipped) ≡ 0 →
-      reach ≡ summedRadius bs → callFrom k cells reach (stateIn p) ≡ ball q i
-  unfolding callFrom stateIn ball searchIn
-  ball-call i reach p e f g = rw (e, f, g)
+  pub ball-call : (i m reach : ℕ) → m ≡ centreAt bs i → Reaching k cells (summedRadius bs) reach →
+      callFrom k cells reach (centred m) ≡ ball q i
+  unfolding callFrom ball searchIn
+  ball-call i m reach e f = f .same m ∙ rw e
 
   module _ (n budget start : ℕ) where
     pub before-start : (planes : List ℕ) → length planes ≡ planeCells → Shows k cells (centred 0) planes →

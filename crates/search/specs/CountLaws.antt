@@ -12,12 +12,12 @@ use Rattle.words.specs.CountLaws.{count-same, digit-not}
 use Rattle.formula.specs.Formula.{Literal, Clause, WellFormedClause, bitOf, met, literalOf}
 use Rattle.formula.specs.Counts.{signCount, opposite, Steps}
 use Rattle.formula.specs.CountLaws.{names?, is, opposite-lt, both-count, same-bit, same-is, other-is, other-bit, other-met, literal-toggles, count-steps, met-steps, none-is, none-count}
-use Rattle.formula.specs.Machine.{IsLiteral, held, clauseAt}
+use Rattle.formula.specs.Machine.{IsLiteral, held}
 use Rattle.planes.specs.Machine.{rowCount, firstCounter, secondCounter, planeCells, Counts, Starts, Shifted, AboveZero}
 use Rattle.planes.specs.CountsLaws.{shifted-counts}
 use Rattle.search.specs.Ball.{State, isFlipped, isOpen, reading, flip}
 use Rattle.search.specs.ReadingLaws.{open-is, true-met}
-use Rattle.search.specs.Machine.{centred, Ready, Tryable, Begins, Flips, Toggles, Settles}
+use Rattle.search.specs.Machine.{centred, Tryable, Begins, Flips, Toggles, Settles}
 
 -- ---- what is counted
 
@@ -104,14 +104,8 @@ module _ (literal : ℕ) (known : IsLiteral literal) where
       rw (open-centred m l, open-centred m′ l)
       (omega (arith, literal-toggles literal m l (known .0) h u, digit-not (met m l), digit-not (met m′ l)))
 
-  module _ (k : ℕ) (cells occ : List ℕ) (r : Ready k cells occ) (i : ℕ) (h : i < k) where
-    abbrev c : Clause
-    c = clauseAt cells i
-
-    abbrev well : WellFormedClause width c
-    well = r .table .each i h
-
-    open-steps : (s : State) → Tryable s it → Steps 0 literal (count (isOpen s)) (count (isOpen (flip s it))) c
+  module _ {n : ℕ} (c : Clause) (well : WellFormedClause n c) where
+    pub open-steps : (s : State) → Tryable s it → Steps 0 literal (count (isOpen s)) (count (isOpen (flip s it))) c
     open-steps s t =
         count-steps 0 literal c well (omega (arith, none-count c well, both-count literal c (well .once))) _ _
         (λ l j. open-flips s l (well .known l j .0) t)
@@ -135,7 +129,7 @@ module _ (k literal : ℕ) (occ from to : List ℕ) (known : IsLiteral literal) 
               met = shifted-counts (r .table .room) (flip-rows literal known) (r .occurs) (h .met)
                   (λ i l. met-steps literal (known .0) _ (r .table .each i l) (s .assignment) (t .unmet)) to first;
               «open» = shifted-counts (r .table .room) (omega arith, known .1) (r .occurs) (h .«open»)
-                  (λ i l. open-steps literal known k cells occ r i l s t) to second;
+                  (λ i l. open-steps literal known _ (r .table .each i l) s t) to second;
             };
       }
 
@@ -151,7 +145,7 @@ module _ (k literal : ℕ) (occ from to : List ℕ) (known : IsLiteral literal) 
               met = shifted-counts (r .table .room) rows (r .occurs) (h .met)
                   (λ i l. met-steps literal (known .0) _ (r .table .each i l) m u) to first;
               «open» = shifted-counts (r .table .room) (rows .1, rows .0) (r .occurs) (h .«open»)
-                  (λ i l. centre-steps literal known k cells occ r i l m u) to second;
+                  (λ i l. centre-steps literal known _ (r .table .each i l) m u) to second;
             };
       }
 

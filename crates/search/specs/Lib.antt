@@ -9,6 +9,8 @@ pub mod CentreLaws
 pub mod RunLaws
 pub mod CallLaws
 pub mod CountLaws
+pub mod FlipLaws
+pub mod ForcedLaws
 pub mod ChoiceLaws
 pub mod ClauseLaws
 pub mod MachineLaws

@@ -1,6 +1,7 @@
 -- What the search machine is given and what it answers, read as the definitions.
 use mathlib.Core.Path.{_≡_}
-use mathlib.Core.Bool.{Bool, true, false, cond, not}
+use mathlib.Core.Logic.{_⊎_}
+use mathlib.Core.Bool.{Bool, true, false, cond, not, _&&_}
 use mathlib.Core.List.{List, [], _∷_, _++_}
 use Prim.Native.Nat.{ℕ, _+_, _-_, _*_, _/_, _%_, _^_, _≤_, _<_, min}
 use lib.ListN.{length, getD, take, drop, replicate}
@@ -8,20 +9,19 @@ use lib.Dec.{eqb}
 use Rattle.words.specs.Lists.{every, count}
 use Rattle.words.specs.Bits.{bit, toggle, width}
 use Rattle.words.specs.BitLaws.{digit}
-use Rattle.words.specs.Machine.{bitsOf}
-use Rattle.formula.specs.Formula.{Literal, bitOf, met, literalOf}
-use Rattle.formula.specs.Machine.{Table, IsLiteral, held, clauseAt, lengthAt, literalAt}
+use Rattle.words.specs.Machine.{bitsOf, setOf}
+use Rattle.formula.specs.Formula.{Literal, bitOf, met, names, literalOf}
+use Rattle.formula.specs.Machine.{Table, IsLiteral, held, clauseAt, lengthAt}
 use Rattle.tree.specs.declared.Found.{Found}
 use Rattle.tree.specs.Explore.{Outcome, none, try}
 use Rattle.tree.specs.Budget.{Answer}
 use Rattle.tree.specs.BudgetLaws.{settle, rest}
 use Rattle.tree.specs.Machine.{answerIn}
-use Rattle.planes.specs.declared.Picks.{Picks}
-use Rattle.planes.specs.Machine.{firstCounter, secondCounter, planeCells, First, Lanes, oneZero, passes, Occurs, Counts}
+use Rattle.planes.specs.declared.Kind.the-variants.{Lone}
+use Rattle.planes.specs.Machine.{firstCounter, secondCounter, planeCells, First, wanted, Occurs, Counts}
 use Rattle.search.specs.declared.path.Path.{Path}
-use Rattle.search.specs.declared.choice.Choice.{Choice}
 use Rattle.search.specs.declared.reading.Reading.{Reading as ClauseReading}
-use Rattle.search.specs.Ball.{State, Reading, reading, isTrue, isDead, isFlipped, isOpen, meetsS, meetsL, flip, isTried, tried, select, skip, rule, ballSearch}
+use Rattle.search.specs.Ball.{State, Reading, reading, isTrue, isDead, isFlipped, isOpen, hasLoneOpposite, meetsL, flip, isTried, select, skip, rule, ballSearch}
 use Rattle.search.specs.Run.{Block, Search, plan, blocks, summedRadius, centreAt, ball, centreCount}
 use Rattle.search.specs.declared.centre.Layout.{Layout}
 use Rattle.search.specs.declared.centre.Partial.{Partial}
@@ -29,7 +29,7 @@ use Rattle.code.specs.Machine.{codeCells}
 use Rattle.code.specs.Code.{code}
 
 unfoldable pub stateIn : Path → State
-stateIn p = record { assignment = bitsOf (p .assignment); flipped = bitsOf (p .flipped) }
+stateIn p = record { assignment = bitsOf (p .assignment); flipped = setOf (p .flipped) }
 
 -- the state at a centre: no variable is flipped
 abbrev pub centred : ℕ → State
@@ -47,6 +47,12 @@ pub record Shows (k : ℕ) (cells : List ℕ) (s : State) (planes : List ℕ) : 
   pub met : Counts k cells firstCounter (λ c. reading s c .met) planes
   pub «open» : Counts k cells secondCounter (λ c. reading s c .«open») planes
 
+-- They show it for some table.
+pub record Seen (k : ℕ) (occ planes : List ℕ) (s : State) : Type 0 where
+  pub cells : List ℕ
+  pub ready : Ready k cells occ
+  pub shows : Shows k cells s planes
+
 -- A literal that a call may try: it is not met, and its variable is not flipped.
 pub record Tryable (s : State) (l : Literal) : Type 0 where
   pub unmet : met (s .assignment) l ≡ false
@@ -57,47 +63,48 @@ pub record Begins (n k : ℕ) (occ planes : List ℕ) : Type 0 where
   pub size : length planes ≡ planeCells
   pub shows : (cells : List ℕ) → Table n k cells → Occurs k cells occ → Shows k cells (centred 0) planes
 
--- Bit j of r says of each of the first `size` literals of a clause whether it passes the test, and r has no other bits.
-pub record Flags (cells : List ℕ) (clause size : ℕ) (test : Literal → Bool) (r : ℕ) : Type 0 where
-  pub each : (j : ℕ) → j < size → bit r j ≡ test (literalOf (literalAt cells clause j))
-  pub below : r < 2 ^ size
+-- In the set b are the variables of which the literal that is not met has a lone opposite, and no flipped ones.
+pub record Forced (k : ℕ) (cells : List ℕ) (s : State) (b : ℕ) : Type 0 where
+  pub each : (l : Literal) → 1 ≤ l .variable → l .variable ≤ width → met (s .assignment) l ≡ false → isFlipped s l ≡ false →
+      bit b (bitOf l) ≡ hasLoneOpposite (held k cells) s l
+  pub clean : (v : ℕ) → v < width → bit b v ≡ true → bit (s .flipped) v ≡ false
 
--- In `lone` the lanes of the clauses with one literal met and none open are set.
-abbrev pub Lone : ℕ → List ℕ → State → List ℕ → Type 0
-Lone k cells s lone = Lanes k (passes oneZero cells (λ c. reading s c .met) (λ c. reading s c .«open»)) lone
+-- Where a call with flips left stands: no clause is dead, and the set b has the variables that are forced.
+pub record Standing (k : ℕ) (cells : List ℕ) (s : State) (b : ℕ) : Type 0 where
+  pub alive : (i : ℕ) → i < k → isDead s (clauseAt cells i) ≡ false
+  pub forced : Forced k cells s b
+
+-- The set r has the variables of b and those of the clauses that pass the test.
+pub record Gathered (k : ℕ) (cells : List ℕ) (test : ℕ → Bool) (b r : ℕ) : Type 0 where
+  pub kept : (v : ℕ) → v < width → bit b v ≡ true → bit r v ≡ true
+  pub named : (v i : ℕ) → v < width → i < k → test i ≡ true → names (v + 1) (clauseAt cells i) ≡ true → bit r v ≡ true
+  pub only : (v : ℕ) → v < width → bit r v ≡ true →
+      (bit b v ≡ true) ⊎ ((i : ℕ) × (i < k) × (test i ≡ true) × (names (v + 1) (clauseAt cells i) ≡ true))
+
+-- clause i has one literal met and none open, and holds the literal with the word u, where there is one to hold
+abbrev pub isNew : List ℕ → State → ℕ → ℕ → Bool
+isNew cells s u i = wanted Lone u cells (λ c. reading s c .met) (λ c. reading s c .«open») i
+
+-- The set q has the variables of b and those of such clauses, without the flipped ones: b is what was forced before, and u the
+-- opposite of the literal just flipped, or 0 at a centre.
+pub record Forces (k : ℕ) (cells : List ℕ) (s : State) (u b q : ℕ) : Type 0 where
+  pub sum : ℕ
+  pub gathered : Gathered k cells (isNew cells s u) b sum
+  pub without : (v : ℕ) → v < width → bit q v ≡ (bit sum v && not (bit (s .flipped) v))
 
 -- clause i meets L
 abbrev pub isSpared : ℕ → List ℕ → State → ℕ → Bool
 isSpared k cells s i = meetsL (held k cells) s (clauseAt cells i)
 
--- What one pass over the planes told of a state: no clause is dead; which is the first false clause, the first that meets S, and the
--- first with one literal met and none open.
-pub record Looked (k : ℕ) (cells : List ℕ) (s : State) (r : Picks) : Type 0 where
-  pub alive : (i : ℕ) → i < k → isDead s (clauseAt cells i) ≡ false
-  pub first : First 0 k (λ i. not (isTrue s (clauseAt cells i))) (r .first)
-  pub few : First 0 k (λ i. meetsS s (clauseAt cells i)) (r .few)
-  pub lone : First 0 k (passes oneZero cells (λ c. reading s c .met) (λ c. reading s c .«open»)) (r .lone)
+-- r is the number of the first false clause.
+abbrev pub FirstFalse : ℕ → List ℕ → State → ℕ → Type 0
+FirstFalse k cells s r = First 0 k (λ i. not (isTrue s (clauseAt cells i))) r
 
 -- r is the number of the clause that the rule selects.
 pub record Selected (k : ℕ) (cells : List ℕ) (s : State) (r : ℕ) : Type 0 where
   pub inside : r < k
   pub same : select (held k cells) s ≡ clauseAt cells r
   pub failing : isTrue s (clauseAt cells r) ≡ false
-
--- What a call branches on: a clause that is false, and those of its literals that are tried.
-pub record Branch (k : ℕ) (cells : List ℕ) (s : State) (r : Choice) : Type 0 where
-  pub inside : r .clause < k
-  pub failing : isTrue s (clauseAt cells (r .clause)) ≡ false
-  pub flags : Flags cells (r .clause) (lengthAt cells (r .clause)) (isTried (skip (held k cells)) s) (r .tried)
-
--- The choice of a call: the clause whose literals the rule tries, or else k where all clauses are true, or more where some clause is
--- dead.
-pub record Chosen (k : ℕ) (cells : List ℕ) (s : State) (r : Choice) : Type 0 where
-  pub all : r .clause ≡ k → every (isTrue s) (held k cells) ≡ true
-  pub some : (r .clause ≡ k → ⊥) → every (isTrue s) (held k cells) ≡ false
-  pub dead : k < r .clause → rule (held k cells) s ≡ []
-  pub literals : r .clause < k → rule (held k cells) s ≡ tried (skip (held k cells)) s (clauseAt cells (r .clause))
-  pub branch : r .clause < k → Branch k cells s r
 
 -- The flip of a literal in a call: the planes show the state after it,
 pub record Flips (k literal : ℕ) (occ from to : List ℕ) : Type 0 where
@@ -149,33 +156,37 @@ literalsFrom k cells left s ls = try (attemptFrom k cells left s) ls
 
 -- What the literals of a clause from number j on are tried with: the clause is false, there is a flip for a call, and the calls
 -- made so far are within the budget.
-pub record Trying (k : ℕ) (cells occ planes : List ℕ) (s : State) (choice : Choice) (j left calls budget : ℕ) : Type 0 where
+pub record Trying (k : ℕ) (cells occ planes : List ℕ) (s : State) (b clause j left calls budget : ℕ) : Type 0 where
   pub ready : Ready k cells occ
   pub shows : Shows k cells s planes
-  pub branch : Branch k cells s choice
+  pub standing : Standing k cells s b
+  pub inside : clause < k
+  pub failing : isTrue s (clauseAt cells clause) ≡ false
   pub flips : 0 < left
   pub enough : calls ≤ budget
-  pub more : j ≤ lengthAt cells (choice .clause)
+  pub more : j ≤ lengthAt cells clause
 
 -- Before literal j in the loop over the literals of a clause: those still to come, with `made` calls counted, give what all of them
 -- give with `calls` counted.
-pub record Turn (k : ℕ) (cells occ planes : List ℕ) (s : State) (choice : Choice) (left calls budget made j : ℕ) : Type 0 where
-  pub trying : Trying k cells occ planes s choice j left made budget
-  pub same : settle budget made (literalsFrom k cells left s (drop j (clauseAt cells (choice .clause))))
-      ≡ settle budget calls (literalsFrom k cells left s (clauseAt cells (choice .clause)))
+pub record Turn (k : ℕ) (cells occ planes : List ℕ) (s : State) (b clause left calls budget made j : ℕ) : Type 0 where
+  pub trying : Trying k cells occ planes s b clause j left made budget
+  pub same : settle budget made (literalsFrom k cells left s (drop j (clauseAt cells clause)))
+      ≡ settle budget calls (literalsFrom k cells left s (clauseAt cells clause))
 
--- What one literal is tried with: it may be tried.
-pub record Attempting (k : ℕ) (cells occ planes : List ℕ) (s : State) (literal left calls budget : ℕ) : Type 0 where
+-- What one literal is tried with: it may be tried, and has no lone opposite.
+pub record Attempting (k : ℕ) (cells occ planes : List ℕ) (s : State) (b literal left calls budget : ℕ) : Type 0 where
   pub ready : Ready k cells occ
   pub shows : Shows k cells s planes
+  pub standing : Standing k cells s b
   pub known : IsLiteral literal
   pub tryable : Tryable s (literalOf literal)
+  pub kept : hasLoneOpposite (held k cells) s (literalOf literal) ≡ false
   pub flips : 0 < left
   pub enough : calls ≤ budget
 
 -- one literal where one flip is left, so that its call is the last on its path
-pub record LastAttempt (k : ℕ) (occ planes : List ℕ) (s : State) (literal budget made : ℕ) (r : Found) : Type 0 where
-  pub answer : (cells : List ℕ) → Attempting k cells occ planes s literal 1 made budget →
+pub record LastAttempt (k : ℕ) (occ planes : List ℕ) (s : State) (b literal budget made : ℕ) (r : Found) : Type 0 where
+  pub answer : (cells : List ℕ) → Attempting k cells occ planes s b literal 1 made budget →
       answerIn r ≡ settle budget made (callFrom k cells 0 (flip s (literalOf literal)))
 
 -- ---- the blocks and their centres
@@ -259,8 +270,13 @@ searchIn k cells bs = record { clauses = held k cells; rule = rule (held k cells
 unfoldable pub ballsFrom : Search → ℕ → ℕ → ℕ → Answer
 ballsFrom q budget c i = settle budget c (rest (ball q) (centreCount (q .blocks)) i)
 
--- What the loop over the balls is given: the planes of the assignment 0, the layout of n variables with its codes, its summed
--- radius, and the number of the ball to start at.
+-- r flips give what the whole radius gives, at every centre; and where there are any, no clause is dead.
+pub record Reaching (k : ℕ) (cells : List ℕ) (radius r : ℕ) : Type 0 where
+  pub same : (m : ℕ) → callFrom k cells r (centred m) ≡ callFrom k cells radius (centred m)
+  pub alive : 0 < r → (m i : ℕ) → i < k → isDead (centred m) (clauseAt cells i) ≡ false
+
+-- What the loop over the balls is given: the planes of the assignment 0, the layout of n variables with its codes, the flips of a
+-- ball, and the number of the ball to start at.
 pub record Prepared (k : ℕ) (cells occ planes : List ℕ) (n : ℕ) (l : Layout) (whole last : List ℕ) (r i : ℕ) : Type 0 where
   pub ready : Ready k cells occ
   pub size : length planes ≡ planeCells
@@ -269,7 +285,7 @@ pub record Prepared (k : ℕ) (cells occ planes : List ℕ) (n : ℕ) (l : Layou
   pub lasts : length last ≡ codeCells
   pub laid : Laid l whole last
   pub variables : n ≡ l .whole * l .size + l .last
-  pub reach : r ≡ summedRadius (blocksIn l whole last)
+  pub reach : Reaching k cells (summedRadius (blocksIn l whole last)) r
   pub start : i < 2 ^ 63
 
 -- Before ball i of the search q, which started at the ball `start`: the planes are those of a centre m of n variables, each ball

@@ -8,7 +8,7 @@ use native.Mathlib.Omega.{arith}
 use lib.Dec.{eqb, eqb·suc-zero, leb, ltb}
 use lib.ListN.{length}
 use borrow.Author.Tests.{lt-ltb, eq-eqb, eqb-true, not-true}
-use Rattle.words.specs.Lists.{In, some, every, keep, count}
+use Rattle.words.specs.Lists.{In, some, every, count}
 use Rattle.words.specs.ListLaws.{every-in, some-in, in-some, keep-in, in-keep, and-left, and-right, and-both, both-ways, refute}
 use Rattle.words.specs.Bits.{bit}
 use Rattle.words.specs.BitLaws.{digit}

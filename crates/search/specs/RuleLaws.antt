@@ -10,8 +10,8 @@ use native.Mathlib.Omega.{arith}
 use lib.Dec.{eqb, leb}
 use lib.ListN.{length}
 use borrow.Author.Tests.{eqb-true, eqb-false, leb-true, leb-false, not-true}
-use Rattle.words.specs.Lists.{In, some, every, first}
-use Rattle.words.specs.ListLaws.{every-in, some-in, keep-in, in-keep, length-keep, first-has, first-none, only-passes, and-right, or-cases, refute}
+use Rattle.words.specs.Lists.{In, some, every}
+use Rattle.words.specs.ListLaws.{every-in, some-in, keep-in, in-keep, length-keep, first-has, first-none, only-passes, and-left, and-right, or-cases, refute}
 use Rattle.words.specs.Bits.{bit, toggle, distance}
 use Rattle.words.specs.BitLaws.{not-same, bit-toggle-same, bit-toggle-other, toggle-lt, distance-toggle, distance-zero}
 use Rattle.formula.specs.Formula.{Literal, Clause, bitOf, met, isOpposite, someMet, allTrue}
@@ -199,6 +199,11 @@ preferred cs s c = meetsS s c || meetsL cs s c
 
 pub preferred-false : (cs : List Clause) (s : State) (c : Clause) → preferred cs s c ≡ true → isTrue s c ≡ false
 preferred-false cs s c e = ⊎-elim (short-false s c) (lone-false cs s c) (or-cases (meetsS s c) (meetsL cs s c) e)
+
+-- a literal that is tried has no lone opposite
+pub tried-kept : (cs : List Clause) (s : State) (l : Literal) → isTried (skip cs) s l ≡ true → hasLoneOpposite cs s l ≡ false
+unfolding isTried skip
+tried-kept cs s l e = not-true _ (and-left (not (hasLoneOpposite cs s l)) (not (isFlipped s l)) e)
 
 -- The engine's rule: no literal where some clause is dead, and otherwise those of the clause selected.
 pub rule-dead : (cs : List Clause) (s : State) → some (isDead s) cs ≡ true → rule cs s ≡ []

@@ -1,21 +1,23 @@
 // The search in one ball: calls, and the literals that a call tries, which call each other.
 use crate::choice;
-use crate::choice::Choice;
 use crate::counts;
 use crate::path::Path;
+use planes::Kind;
+use planes::NO_LITERAL;
 use planes::OCCURRENCES;
 use planes::PLANES;
 use tree::Found;
 ghost use mathlib.Core.Path.{_≡_};
-ghost use Prim.Native.Nat.{_-_, _≤_};
+ghost use Prim.Native.Nat.{_-_, _≤_, _<_};
 ghost use lib.ListN.{length};
+ghost use Rattle.words.specs.Machine.{setOf};
 ghost use Rattle.formula.specs.Formula.{literalOf};
 ghost use Rattle.formula.specs.Machine.{IsLiteral, clauseAt};
 ghost use Rattle.tree.specs.BudgetLaws.{settle};
 ghost use Rattle.tree.specs.Machine.{answerIn};
 ghost use Rattle.planes.specs.Machine.{laneCount, planeCells};
 ghost use Rattle.search.specs.Ball.{flip};
-ghost use Rattle.search.specs.Machine.{stateIn, Ready, Shows, Trying, Attempting, LastAttempt, callFrom, literalsFrom};
+ghost use Rattle.search.specs.Machine.{stateIn, Ready, Shows, Standing, Trying, Attempting, LastAttempt, callFrom, literalsFrom};
 
 // One call, with `left` flips left and `calls` calls made before it.
 pub fn call(
@@ -30,50 +32,50 @@ pub fn call(
 ) -> Found
     requires { ⌜ Ready k (now cells) (now occ) ⌝ }
     requires { ⌜ Shows k (now cells) (stateIn at) (now planes) ⌝ }
+    requires { ⌜ (0 < left → Standing k (now cells) (stateIn at) (setOf (at .forced))) ⌝ }
     ensures { λ r. ⌜ answerIn r ≡ settle budget calls (callFrom k (now (cells .entry)) left (stateIn at)) ⌝ }
 {
     if tree::exhausted(calls, budget) {
         return Found::Spent(budget);
     }
-    let choice = choice::choose(cells, occ, k, planes, at);
-    let clause = choice.clause;
-    if clause == k {
+    let first = planes::next(occ, k, NO_LITERAL, Kind::Zero, planes, 0);
+    if first == k {
         let model = at.assignment;
         return Found::Clear(model, calls + 1);
     }
-    if left == 0 || k < clause {
+    if left == 0 {
         return Found::None(calls + 1);
     }
+    let clause = choice::choose(occ, k, planes, at, first);
     if left == 1 {
-        return last_literals(cells, occ, k, planes, at, choice, calls + 1, budget);
+        return last_literals(cells, occ, k, planes, at, clause, calls + 1, budget);
     }
-    literals(cells, occ, k, planes, at, choice, left, calls + 1, budget)
+    literals(cells, occ, k, planes, at, clause, left, calls + 1, budget)
 }
 
-// The literals that the choice tries, one after the other; `next` is where their planes go.
+// The literals of a clause that are tried, one after the other; `next` is where their planes go.
 fn literals(
     cells: &[u32; formula::CELLS],
     occ: &[u64; OCCURRENCES],
     k: usize,
     planes: &[u64; PLANES],
     at: Path,
-    choice: Choice,
+    clause: usize,
     left: u32,
     calls: u32,
     budget: u32,
 ) -> Found
-    requires { ⌜ Trying k (now cells) (now occ) (now planes) (stateIn at) choice 0 left calls budget ⌝ }
+    requires { ⌜ Trying k (now cells) (now occ) (now planes) (stateIn at) (setOf (at .forced)) clause 0 left calls budget ⌝ }
     ensures { λ r. ⌜ answerIn r ≡ settle budget calls
-        (literalsFrom k (now (cells .entry)) left (stateIn at) (clauseAt (now (cells .entry)) (choice .clause))) ⌝ }
+        (literalsFrom k (now (cells .entry)) left (stateIn at) (clauseAt (now (cells .entry)) clause)) ⌝ }
 {
-    let clause = choice.clause;
     let size = formula::length_at(cells, clause);
     let mut next = [0u64; PLANES];
     let mut made = calls;
     let mut j = 0;
     while j < size {
-        if choice.tries(j) {
-            let literal = formula::literal_at(cells, clause, j);
+        let literal = formula::literal_at(cells, clause, j);
+        if at.is_free(literal) {
             let tried = attempt(
                 cells,
                 occ,
@@ -109,14 +111,14 @@ fn attempt(
     calls: u32,
     budget: u32,
 ) -> Found
-    requires { ⌜ Attempting k (now cells) (now occ) (now planes) (stateIn at) literal left calls budget ⌝ }
+    requires { ⌜ Attempting k (now cells) (now occ) (now planes) (stateIn at) (setOf (at .forced)) literal left calls budget ⌝ }
     requires { ⌜ length (now next) ≡ planeCells ⌝ }
     ensures { λ r. ⌜ answerIn r ≡ settle budget calls
         (callFrom k (now (cells .entry)) (left - 1) (flip (stateIn at) (literalOf literal))) ⌝ }
     ensures { λ r. ⌜ length (now (next .exit)) ≡ planeCells ⌝ }
 {
     counts::flip(occ, k, literal, planes, next);
-    let after = at.flip(literal);
+    let after = choice::force(occ, k, literal ^ 1, next, at.flip(literal));
     call(cells, occ, k, next, after, left - 1, calls, budget)
 }
 
@@ -127,21 +129,20 @@ fn last_literals(
     k: usize,
     planes: &[u64; PLANES],
     at: Path,
-    choice: Choice,
+    clause: usize,
     calls: u32,
     budget: u32,
 ) -> Found
-    requires { ⌜ Trying k (now cells) (now occ) (now planes) (stateIn at) choice 0 1 calls budget ⌝ }
+    requires { ⌜ Trying k (now cells) (now occ) (now planes) (stateIn at) (setOf (at .forced)) clause 0 1 calls budget ⌝ }
     ensures { λ r. ⌜ answerIn r ≡ settle budget calls
-        (literalsFrom k (now (cells .entry)) 1 (stateIn at) (clauseAt (now (cells .entry)) (choice .clause))) ⌝ }
+        (literalsFrom k (now (cells .entry)) 1 (stateIn at) (clauseAt (now (cells .entry)) clause)) ⌝ }
 {
-    let clause = choice.clause;
     let size = formula::length_at(cells, clause);
     let mut made = calls;
     let mut j = 0;
     while j < size {
-        if choice.tries(j) {
-            let literal = formula::literal_at(cells, clause, j);
+        let literal = formula::literal_at(cells, clause, j);
+        if at.is_free(literal) {
             let tried = last_attempt(occ, k, planes, at, literal, made, budget);
             let Found::None(more) = tried else {
                 return tried;
@@ -165,7 +166,7 @@ fn last_attempt(
     budget: u32,
 ) -> Found
     requires { ⌜ (k ≤ laneCount) × IsLiteral literal ⌝ }
-    ensures { λ r. ⌜ LastAttempt k (now (occ .entry)) (now (planes .entry)) (stateIn at) literal budget calls r ⌝ }
+    ensures { λ r. ⌜ LastAttempt k (now (occ .entry)) (now (planes .entry)) (stateIn at) (setOf (at .forced)) literal budget calls r ⌝ }
 {
     if tree::exhausted(calls, budget) {
         return Found::Spent(budget);

@@ -2,20 +2,25 @@
 use crate::ball::call;
 use crate::centre::Layout;
 use crate::centre::centre;
+use crate::choice::force;
 use crate::counts;
 use crate::path::Path;
+use planes::Kind;
+use planes::NO_LITERAL;
 use planes::OCCURRENCES;
 use planes::PLANES;
 use tree::Found;
 use words::Assignment;
+use words::Set;
 ghost use mathlib.Core.Path.{_≡_};
-ghost use Prim.Native.Nat.{_^_, _≤_, _<_};
+ghost use mathlib.Core.List.{List};
+ghost use Prim.Native.Nat.{ℕ, _^_, _≤_, _<_};
 ghost use lib.ListN.{length};
 ghost use Rattle.words.specs.Bits.{toggle, width};
 ghost use Rattle.words.specs.Machine.{bitsOf};
 ghost use Rattle.tree.specs.Machine.{answerIn};
 ghost use Rattle.planes.specs.Machine.{laneCount, planeCells};
-ghost use Rattle.search.specs.Machine.{blocksIn, Moves, Prepared, searchIn, ballsFrom};
+ghost use Rattle.search.specs.Machine.{centred, Ready, Shows, blocksIn, Moves, Reaching, Prepared, searchIn, ballsFrom};
 
 // One bit: the planes of `at` become those of the answer, which is `at` with bit v toggled.
 fn toggle_bit(
@@ -57,6 +62,20 @@ fn recentre(
     }
 }
 
+// How many flips the search of a ball has: none where some clause has no literals, for then no call
+// has a literal to try.
+pub fn flips(occ: &[u64; OCCURRENCES], k: usize, planes: &[u64; PLANES], radius: u32) -> u32
+    requires { ⌜ k ≤ laneCount ⌝ }
+    ensures { λ r. ⌜ ((cells : List ℕ) → Ready k cells (now (occ .entry)) → Shows k cells (centred 0) (now (planes .entry)) →
+        Reaching k cells radius r) ⌝ }
+{
+    if planes::next(occ, k, NO_LITERAL, Kind::Both, planes, 0) == k {
+        radius
+    } else {
+        0
+    }
+}
+
 // The balls from `start` on in order, up to the first that finds a model or to the budget. The
 // planes come in as those of the assignment 0.
 pub fn balls(
@@ -76,8 +95,7 @@ pub fn balls(
     ensures { λ r. ⌜ answerIn r ≡
         ballsFrom (searchIn k (now (cells .entry)) (blocksIn layout (now (whole .entry)) (now (last .entry)))) budget 0 start ⌝ }
 {
-    let zero = Assignment::zero();
-    let mut at = zero;
+    let mut at = Assignment::zero();
     let mut calls = 0;
     let mut i = start;
     let mut next = centre(layout, whole, last, i);
@@ -87,9 +105,11 @@ pub fn balls(
         at = to;
         let path = Path {
             assignment: to,
-            flipped: zero,
+            flipped: Set::empty(),
+            forced: Set::empty(),
         };
-        let found = call(cells, occ, k, planes, path, reach, calls, budget);
+        let from = force(occ, k, NO_LITERAL, planes, path);
+        let found = call(cells, occ, k, planes, from, reach, calls, budget);
         let Found::None(made) = found else {
             return found;
         };

@@ -40,7 +40,8 @@ pub fn run(
     let mut whole = layout::cells();
     let mut last = layout::cells();
     let layout = layout::lay_out(n, size, radius, &mut whole, &mut last);
-    let reach = layout.whole * layout.radius + words::least(layout.radius, layout.last);
+    let radius = layout.whole * layout.radius + words::least(layout.radius, layout.last);
+    let reach = balls::flips(&occ, k, &planes, radius);
     balls::balls(
         cells,
         &occ,

@@ -1,6 +1,5 @@
 // The reading of one clause, literal by literal. (The search holds the readings of all clauses in
 // planes: counts.rt.)
-use crate::path::Path;
 use words::Assignment;
 ghost use mathlib.Core.Path.{_≡_};
 ghost use mathlib.Core.List.{[]};
@@ -11,7 +10,7 @@ ghost use Rattle.words.specs.Machine.{bitsOf};
 ghost use Rattle.formula.specs.Formula.{lengthLimit, literalOf};
 ghost use Rattle.formula.specs.Machine.{Table, IsLiteral, held};
 ghost use Rattle.search.specs.Ball.{reading};
-ghost use Rattle.search.specs.Machine.{stateIn, readingIn, Counted};
+ghost use Rattle.search.specs.Machine.{readingIn, Counted};
 
 // How many literals of a clause are met, and how many are open.
 pub struct Reading {
@@ -20,18 +19,18 @@ pub struct Reading {
 }
 
 impl Reading {
-    fn with_literal(self, at: Path, literal: u32) -> Reading
+    fn with_literal(self, assignment: Assignment, flipped: Assignment, literal: u32) -> Reading
         requires { ⌜ IsLiteral literal ⌝ }
         requires { ⌜ (self .met ≤ lengthLimit) × (self .«open» ≤ lengthLimit) ⌝ }
-        ensures { λ r. ⌜ Counted (stateIn at) (literalOf literal) (readingIn self) (readingIn r) ⌝ }
+        ensures { λ r. ⌜ Counted (record { assignment = bitsOf assignment; flipped = bitsOf flipped }) (literalOf literal) (readingIn self) (readingIn r) ⌝ }
     {
-        if at.meets(literal) {
+        if formula::meets(assignment, literal) {
             return Reading {
                 met: self.met + 1,
                 open: self.open,
             };
         }
-        if at.has_flipped(literal) {
+        if flipped.test(literal / 2 - 1) {
             return self;
         }
         Reading {
@@ -54,10 +53,6 @@ pub fn clause_reading(
     ensures { λ r. ⌜ readingIn r ≡ reading (record { assignment = bitsOf assignment; flipped = bitsOf flipped })
         (getD (held k (now (cells .entry))) i []) ⌝ }
 {
-    let at = Path {
-        assignment,
-        flipped,
-    };
     let mut reading = Reading { met: 0, open: 0 };
     if k <= i {
         return reading;
@@ -65,7 +60,7 @@ pub fn clause_reading(
     let length = formula::length_at(cells, i);
     let mut j: u32 = 0;
     while j < length {
-        reading = reading.with_literal(at, formula::literal_at(cells, i, j));
+        reading = reading.with_literal(assignment, flipped, formula::literal_at(cells, i, j));
         j += 1;
     }
     reading

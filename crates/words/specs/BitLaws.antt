@@ -1,14 +1,14 @@
 -- The laws of bits: toggling changes that bit and no other; distance counts the bits that differ; distances of blocks add up.
 use mathlib.Core.Path.{_≡_, refl, sym, ap, ap₂, _∙_}
 use mathlib.Core.Bool.{Bool, true, false, cond, not, xor, _&&_, _||_, true≢false, Bool·not-not}
-use Prim.Native.Nat.{ℕ, zero, suc, _+_, _*_, _/_, _%_, _^_, _<_, suc-le-suc, min, max}
-use native.Mathlib.Nat.{add-suc, suc-inj, div-lt-iff-lt-mul, div-eq-of-lt, pow-suc, div-one, zero-div, mod-lt, mul-mod-left, mul-div-cancel, mul-add-mod-self-right, not-suc-le-zero, le-of-suc-le-suc}
+use Prim.Native.Nat.{ℕ, zero, suc, _+_, _-_, _*_, _/_, _%_, _^_, _<_, suc-le-suc, min, max}
+use native.Mathlib.Nat.{add-suc, suc-inj, div-lt-iff-lt-mul, div-eq-of-lt, pow-suc, div-one, one-mul, zero-div, mod-lt, mul-mod-left, mul-div-cancel, mul-add-mod-self-right, not-suc-le-zero, le-of-suc-le-suc}
 use native.Mathlib.Numerals.{one-add}
 use native.Mathlib.Omega.{arith}
 use lib.Dec.{eqb, lit<, eqb·zero-suc, eqb·suc-zero, eqb·suc-suc}
 use lib.Bits.{bitAnd, bitOr, bitXor, differ, and-step, or-step, xor-step, and-shr, or-shr, xor-shr, xor-self, xor-lt, xor-block}
 use lib.Count.{trailingZeros, under, ones, ones-step, ones-cat}
-use lib.Pow.{pow-lt, shr-shr}
+use lib.Pow.{pow-lt, shl-exact, shr-shr}
 use borrow.Author.Tests.{eq-eqb, ne-eqb, eqb-true, eqb-false}
 use Rattle.words.specs.Bits.{bit, toggle, distance}
 
@@ -106,6 +106,26 @@ bit-and = bit-op bitAnd min _&&_ and-shr and-step refl refl refl refl
 
 pub bit-or : (a b v : ℕ) → bit (bitOr a b) v ≡ (bit a v || bit b v)
 bit-or = bit-op bitOr max _||_ or-shr or-step refl refl refl refl
+
+-- 1 shifted by less than k loses no bit in k bits
+pub one-shl : (k s : ℕ) → s < k → 1 * 2 ^ s % 2 ^ k ≡ 2 ^ s
+one-shl k s h = shl-exact {a = 1} 1 s k (lit< tt) (omega arith) ∙ one-mul (2 ^ s)
+
+-- the complement in k bits
+pub bit-not : (k x v : ℕ) → x < 2 ^ k → v < k → bit (2 ^ k - 1 - x) v ≡ not (bit x v)
+bit-not zero x v h l = absurd (not-suc-le-zero l)
+bit-not (suc k) x zero h l =
+    let y = 2 ^ suc k - 1 - x in
+    let odd : y % 2 ≡ 1 - x % 2 = omega (arith, pow-suc 2 k) in
+    rw (bit-low y, bit-low x, odd) (by-parity (λ a. eqb (1 - a) 1 ≡ not (eqb a 1)) x (λ e. refl) (λ e. refl))
+bit-not (suc k) x (suc v) h l =
+    let y = 2 ^ suc k - 1 - x in
+    let half : y / 2 ≡ 2 ^ k - 1 - x / 2 = omega (arith, pow-suc 2 k) in
+    rw (bit-suc y v, bit-suc x v, half) (bit-not k (x / 2) v (omega (arith, pow-suc 2 k)) (le-of-suc-le-suc l))
+
+-- the bits of a that b has not
+pub bit-without : (k a b v : ℕ) → b < 2 ^ k → v < k → bit (bitAnd a (2 ^ k - 1 - b)) v ≡ (bit a v && not (bit b v))
+bit-without k a b v h l = bit-and a _ v ∙ ap (λ (y : Bool). bit a v && y) (bit-not k b v h l)
 
 xor-false : (b : Bool) → xor b false ≡ b
 unfolding xor

@@ -1,4 +1,4 @@
--- The definitions and laws of the crate words: lists and their tests, the bits of a number, and what an assignment reads as.
+-- The definitions and laws of the crate words: lists and their tests, the bits of a number, and what an assignment and a set read as.
 pub mod Lists
 pub mod ListLaws
 pub mod Bits
@@ -6,3 +6,4 @@ pub mod BitLaws
 pub mod CountLaws
 pub mod Machine
 pub mod WordLaws
+pub mod SetLaws

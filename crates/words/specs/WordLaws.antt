@@ -41,14 +41,14 @@ power-next : (i v : ℕ) → 2 ^ (32 * suc i + v) ≡ 2 ^ (32 * i + v) * 2 ^ 32
 power-next i v = let at : 32 * suc i + v ≡ (32 * i + v) + 32 = omega arith in ap (λ (x : ℕ). 2 ^ x) at ∙ pow-add 2 (32 * i + v) 32
 
 -- below a block's border the bits are those of the rest,
-bit-rest : (k a r v : ℕ) → v < k → bit (a * 2 ^ k + r) v ≡ bit r v
+pub bit-rest : (k a r v : ℕ) → v < k → bit (a * 2 ^ k + r) v ≡ bit r v
 bit-rest zero a r v l = absurd (omega arith)
 bit-rest (suc k) a r zero l = bit-low _ ∙ ap (λ (x : ℕ). eqb x 1) (block-odd a k r) ∙ sym (bit-low r)
 bit-rest (suc k) a r (suc v) l =
     bit-suc _ v ∙ ap (λ (x : ℕ). bit x v) (block-half a k r) ∙ bit-rest k a (r / 2) v (omega arith) ∙ sym (bit-suc r v)
 
 -- and from it on those of the block.
-bit-block : (k a r v : ℕ) → r < 2 ^ k → bit (a * 2 ^ k + r) (k + v) ≡ bit a v
+pub bit-block : (k a r v : ℕ) → r < 2 ^ k → bit (a * 2 ^ k + r) (k + v) ≡ bit a v
 unfolding bit
 bit-block k a r v l =
     ap (λ (x : ℕ). eqb (x % 2) 1) (sym (shr-shr (a * 2 ^ k + r) k v) ∙ ap (λ (x : ℕ). x / 2 ^ v) (high a k l))

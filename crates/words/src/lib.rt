@@ -1,16 +1,20 @@
-// The bits of an assignment, the two records that every layer above shares, and small functions of
-// numbers.
+// The bits of an assignment and of a set of variables, the records that every layer above shares,
+// and small functions of numbers.
 ghost use mathlib.Core.Path.{_≡_};
-ghost use Prim.Native.Nat.{_+_, _*_, _^_, _<_, min};
+ghost use mathlib.Core.Bool.{not, _&&_, _||_};
+ghost use Prim.Native.Nat.{ℕ, _+_, _*_, _^_, _<_, min};
 ghost use lib.ListN.{length, getD, set};
 ghost use Rattle.words.specs.Bits.{bit, toggle, width, fromWords};
-ghost use Rattle.words.specs.Machine.{wordsIn, bitsOf, wordCount, FirstDifference};
+ghost use Rattle.words.specs.Machine.{wordsIn, bitsOf, setOf, wordCount, FirstDifference, Meets};
 
 // How many variables an assignment has room for (specs/Bits.antt).
 pub const WIDTH: u32 = 128;
 
 // The bits of a word.
 const BITS: u32 = 32;
+
+// The bits of a word of a set.
+const HALF: u32 = 64;
 
 // The words of an assignment, which a host in C lends as an array.
 pub const WORDS: usize = (WIDTH / BITS) as usize;
@@ -22,6 +26,13 @@ pub struct Assignment {
     pub w1: u32,
     pub w2: u32,
     pub w3: u32,
+}
+
+// A set of variables in two words of 64 bits, the lowest first: bit v - 1 of its number
+// (specs/Machine.antt) belongs to variable v.
+pub struct Set {
+    pub low: u64,
+    pub high: u64,
 }
 
 // Why an input is declined: number and place as in the paper's table of refusals.
@@ -140,6 +151,64 @@ impl Assignment {
         let low = (both % (1u64 << BITS)) as u32;
         let high = (both >> BITS) as u32;
         self.with_word(i, low).with_word(i + 1, high)
+    }
+}
+
+impl Set {
+    pub fn empty() -> Set
+        ensures { λ r. ⌜ setOf r ≡ 0 ⌝ }
+    {
+        Set { low: 0, high: 0 }
+    }
+
+    pub fn has(self, v: u32) -> bool
+        requires { ⌜ v < width ⌝ }
+        ensures { λ r. ⌜ r ≡ bit (setOf self) v ⌝ }
+    {
+        let word = if v < HALF { self.low } else { self.high };
+        (word >> (v % HALF)) % 2 == 1
+    }
+
+    pub fn toggled(self, v: u32) -> Set
+        requires { ⌜ v < width ⌝ }
+        ensures { λ r. ⌜ setOf r ≡ toggle (setOf self) v ⌝ }
+    {
+        let own = 1u64 << (v % HALF);
+        if v < HALF {
+            Set {
+                low: self.low ^ own,
+                high: self.high,
+            }
+        } else {
+            Set {
+                low: self.low,
+                high: self.high ^ own,
+            }
+        }
+    }
+
+    pub fn united(self, other: Set) -> Set
+        ensures { λ r. ⌜ ((v : ℕ) → v < width → bit (setOf r) v ≡ (bit (setOf self) v || bit (setOf other) v)) ⌝ }
+    {
+        Set {
+            low: self.low | other.low,
+            high: self.high | other.high,
+        }
+    }
+
+    pub fn without(self, other: Set) -> Set
+        ensures { λ r. ⌜ ((v : ℕ) → v < width → bit (setOf r) v ≡ (bit (setOf self) v && not (bit (setOf other) v))) ⌝ }
+    {
+        Set {
+            low: self.low & !other.low,
+            high: self.high & !other.high,
+        }
+    }
+
+    pub fn meets(self, other: Set) -> bool
+        ensures { λ r. ⌜ Meets (setOf self) (setOf other) r ⌝ }
+    {
+        (self.low & other.low) | (self.high & other.high) != 0
     }
 }
 

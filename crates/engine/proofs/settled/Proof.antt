@@ -1,7 +1,6 @@
 -- `settled` meets its contract, variant by variant.
 use borrow.Author.Needs.{needs}
 use Rattle.tree.specs.Machine.{answerIn}
-use Rattle.engine.specs.Answers.{answered}
 use Rattle.engine.specs.Machine.{verdictIn}
 use Rattle.engine.proofs.settled.Statement.{statement}
 use Rattle.engine.proofs.settled.Tie as tie

@@ -22,14 +22,14 @@ shl-result c = omega arith
 sub-result : tie.Need-sub-result
 sub-result c =
     let left = c .before .args .k - lanes * c .before .args .w in
-    rw (one-shl left (omega arith)) (pow-pos left)
+    rw (one-shl lanes left (omega arith)) (pow-pos left)
 
 returns : tie.Need-returns
 returns c j l =
     let k = c .before .args .k in
     let w = c .before .args .w in
     let left = k - lanes * w in
-    rw (one-shl left (omega arith))
+    rw (one-shl lanes left (omega arith))
     (bit-from left j (omega arith) l ∙ same-order left j k (lanes * w + j) (λ h. omega arith) (λ h. omega arith))
 
 returns-2 : tie.Need-returns-2

@@ -10,7 +10,7 @@ use Rattle.tree.specs.Budget.{answer}
 use Rattle.search.specs.CallLaws.{answer-balls}
 use Rattle.formula.specs.TableLaws.{table-wider}
 use Rattle.search.specs.LayoutLaws.{reach-is}
-use Rattle.search.specs.Machine.{searchIn, ballsFrom}
+use Rattle.search.specs.Machine.{Ready, searchIn, ballsFrom}
 use Rattle.search.proofs.run.Statement.{statement}
 use Rattle.search.proofs.run.Tie as tie
 
@@ -34,18 +34,22 @@ reach-small : (c : tie.After-lay-out) →
     let l = c .lay-out .result in l .whole * l .radius + min (l .radius) (l .last) ≤ width
 reach-small c = c .lay-out .ensures .reach (c .before .before .before .before .before .before .before .before .pre .1 .2)
 
-mul-reach : tie.Need-mul-reach
-mul-reach c = omega (arith, reach-small (c .before))
+mul-radius : tie.Need-mul-radius
+mul-radius c = omega (arith, reach-small (c .before))
 
 least-requires : tie.Need-least-requires
 least-requires c κs = search needs
 
-add-reach : tie.Need-add-reach
-add-reach c = omega (arith, reach-small (c .before .before), c .least .ensures)
+add-radius : tie.Need-add-radius
+add-radius c = omega (arith, reach-small (c .before .before), c .least .ensures)
+
+flips-requires : tie.Need-flips-requires
+flips-requires c κs = search needs
 
 balls-requires : tie.Need-balls-requires
 balls-requires c κs =
-    let laid = c .before .before .before .before .before .before in
+    let flips = c .before .before .before .before in
+    let laid = flips .before .before .before .before .before in
     let started = laid .before .before .before .before .before in
     let marked = started .before .before in
     let s = marked .before in
@@ -53,22 +57,26 @@ balls-requires c κs =
     let occurs = marked .occurrences .ensures in
     let l = laid .lay-out .result in
     let out = laid .lay-out .ensures in
+    let ready : Ready (s .args .k) (s .args .cells .now) _ =
+    record { table = table-wider _ _ _ _ (s .pre .0 .0) (s .pre .0 .1); occurs = occurs } in
+    let shown = begins .shows (s .args .cells .now) (s .pre .0 .1) occurs in
+    let summed = ap (λ (x : ℕ). l .whole * l .radius + x) (flips .before .before .before .least .ensures) ∙ reach-is l _ _ in
     record {
-      ready = record { table = table-wider _ _ _ _ (s .pre .0 .0) (s .pre .0 .1); occurs = occurs };
+      ready = ready;
       size = begins .size;
-      shows = begins .shows (s .args .cells .now) (s .pre .0 .1) occurs;
+      shows = shown;
       wholes = out .wholes;
       lasts = out .lasts;
       laid = out .laid;
       variables = out .variables;
-      reach = ap (λ (x : ℕ). l .whole * l .radius + x) (c .before .before .before .before .least .ensures) ∙ reach-is l _ _;
+      reach = rw summed at (flips .flips .ensures _ ready shown);
       start = omega arith;
     }
 
 returns : tie.Need-returns
 unfolding ballsFrom
 returns c =
-    let laid = c .before .before .before .before .before .before .before in
+    let laid = c .before .before .before .before .before .before .before .before .before .before in
     let a = laid .before .before .before .before .before .before .before .before .args in
     c .balls .ensures
     ∙ sym (answer-balls (a .budget) (searchIn (a .k) (a .cells .now) _))
@@ -83,8 +91,9 @@ run-spec =
     cells-requires
     cells-requires-2
     lay-out-requires
-    mul-reach
+    mul-radius
     least-requires
-    add-reach
+    add-radius
+    flips-requires
     balls-requires
     returns)

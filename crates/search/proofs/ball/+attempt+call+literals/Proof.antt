@@ -2,27 +2,31 @@
 -- what the definition gives, cut at the budget. The measure combines the flips left and the literals left: ten for each flip, for a
 -- call nine more, and for the loop over its at most eight literals one more for each, which the loop itself counts down; each literal
 -- tried makes a call with one flip less.
-use mathlib.Core.Path.{_≡_, refl, sym, ap, _∙_}
+use mathlib.Core.Path.{_≡_, refl, sym, ap, _∙_, subst}
 use mathlib.Core.Logic.{⊎-elim}
 use mathlib.Core.Bool.{true}
 use Prim.Native.Nat.{ℕ, _+_, _-_, _*_, _<_}
 use native.Mathlib.Nat.{pos-of-ne-zero}
 use native.Mathlib.Omega.{arith}
-use borrow.Author.Tests.{leb-true, leb-false, ltb-true, ltb-false}
+use borrow.Author.Tests.{leb-true, leb-false}
 use borrow.Author.Needs.{needs}
 use borrow.Fn.Kinds.{In}
 use borrow.Fn.PlainCycle.{Measures, is, falls, and}
 use lib.ListN.{length}
-use Rattle.words.specs.Bits.{bit}
+use Rattle.words.specs.Machine.{setOf}
 use Rattle.planes.specs.Machine.{planeCells}
+use Rattle.planes.specs.CountsLaws.{first-same}
 use Rattle.formula.specs.Machine.{clauseAt, lengthAt, literalAt}
 use Rattle.formula.specs.Formula.{literalOf}
 use Rattle.search.specs.Ball.{State, flip}
 use Rattle.tree.specs.Budget.{Answer}
 use Rattle.tree.specs.BudgetLaws.{settle}
 use Rattle.tree.specs.Machine.{answerIn}
-use Rattle.search.specs.Machine.{stateIn, Chosen, Trying, Turn, callFrom, literalsFrom}
-use Rattle.search.specs.MachineLaws.{in-spent, in-clear, in-none, in-dead, in-literals, trying-row, trying-attempt, turn-start, turn-end, turn-passed, turn-stops, turn-next, not-none}
+use Rattle.search.specs.CountLaws.{flip-rows}
+use Rattle.search.specs.ForcedLaws.{forces-same, standing-flip}
+use Rattle.search.specs.ChoiceLaws.{zero-false}
+use Rattle.search.specs.Machine.{stateIn, Standing, FirstFalse, Selected, Trying, Turn, callFrom, literalsFrom}
+use Rattle.search.specs.MachineLaws.{in-spent, in-clear, in-none, in-literals, trying-row, trying-known, free, trying-attempt, turn-start, turn-end, turn-passed, turn-stops, turn-next, not-none}
 use Rattle.search.proofs.ball.attempt.Reads as attempt
 use Rattle.search.proofs.ball.attempt.Kinds as attempt-kinds
 use Rattle.search.proofs.ball.+attempt+call+literals.Lts-attempt as attempt-lts
@@ -36,9 +40,11 @@ use Rattle.search.proofs.ball.+attempt+call+literals.Lts-literals as li
 use Rattle.search.proofs.path.Path.flip.Reads as path-Path-flip-reads
 use Rattle.formula.proofs.length_at.Reads as length-at-reads
 use Rattle.formula.proofs.literal_at.Reads as literal-at-reads
-use Rattle.search.proofs.choice.Choice.tries.Reads as tries-reads
+use Rattle.search.proofs.path.Path.is_free.Reads as is-free-reads
 use Rattle.tree.proofs.exhausted.Reads as exhausted-reads
 use Rattle.search.proofs.choice.choose.Reads as choose-reads
+use Rattle.search.proofs.choice.force.Reads as force-reads
+use Rattle.planes.proofs.next.Reads as next-reads
 use Rattle.search.proofs.counts.flip.Reads as counts-flip-reads
 use Rattle.search.proofs.ball.+attempt+call+literals.{statement}
 use Rattle.search.proofs.ball.+attempt+call+literals.Tie.{close}
@@ -47,7 +53,7 @@ abbrev μ-call : Measures 3 call-kinds.ps ℕ
 μ-call κs a = a .1 .1 .1 .1 .1 .0 * 10 + 9
 
 abbrev μ-literals : Measures 3 literals-kinds.ps ℕ
-μ-literals κs a = a .1 .1 .1 .1 .1 .1 .0 * 10 + lengthAt (a .0 .now) (a .1 .1 .1 .1 .1 .0 .clause)
+μ-literals κs a = a .1 .1 .1 .1 .1 .1 .0 * 10 + lengthAt (a .0 .now) (a .1 .1 .1 .1 .1 .0)
 
 abbrev μ-attempt : Measures 4 attempt-kinds.ps ℕ
 μ-attempt κs a = a .1 .1 .1 .1 .1 .1 .1 .0 * 10
@@ -75,6 +81,8 @@ abbrev call-claims : ℕ → call-lts.Claims
 call-claims t = (
   exhausted-reads.Asked,
   exhausted-reads.Learnt,
+  next-reads.Asked,
+  next-reads.Learnt,
   choose-reads.Asked,
   choose-reads.Learnt,
   last-literals-reads.Asked,
@@ -87,10 +95,10 @@ abbrev literals-claims : ℕ → literals-lts.Claims
 literals-claims t = (
   length-at-reads.Asked,
   length-at-reads.Learnt,
-  tries-reads.Asked,
-  tries-reads.Learnt,
   literal-at-reads.Asked,
   literal-at-reads.Learnt,
+  is-free-reads.Asked,
+  is-free-reads.Learnt,
   attempt-below t,
   attempt.Post,
 )
@@ -101,6 +109,8 @@ attempt-claims t = (
   counts-flip-reads.Learnt,
   path-Path-flip-reads.Asked,
   path-Path-flip-reads.Learnt,
+  force-reads.Asked,
+  force-reads.Learnt,
   call-below t,
   call.Post,
 )
@@ -122,91 +132,114 @@ module _ (t : ℕ) where
       let a = c .before .before .args in a .calls < a .budget
   enough c = leb-false _ _ (sym (c .before .exhausted .ensures) ∙ c .if1 .left)
 
-  call-choose-requires : call-lts.Need-choose-requires (call-claims t) (call-at t) call.Post
-  call-choose-requires c κs = c .before .before .pre .1
+  call-next-requires : call-lts.Need-next-requires (call-claims t) (call-at t) call.Post
+  call-next-requires c κs = (c .before .before .pre .1 .0 .table .room, omega arith, omega arith)
 
-  -- what the choice says
-  first : (c : call-lts.After-choose (call-claims t) (call-at t) call.Post) →
-      let a = c .before .before .before .args in Chosen (a .k) (a .cells .now) (stateIn (a .at)) (c .choose .result)
-  first c = c .choose .ensures
+  -- the first false clause
+  first : (c : call-lts.After-next (call-claims t) (call-at t) call.Post) →
+      let a = c .before .before .before .args in FirstFalse (a .k) (a .cells .now) (stateIn (a .at)) (c .next .result)
+  first c =
+      let p = c .before .before .before .pre .1 in
+      first-same (zero-false (c .before .before .before .args .k) _ _)
+      (c .next .ensures .1 _ _ _ (p .0 .occurs) (p .1 .0 .met) (p .1 .0 .«open»))
 
-  call-add-t14 : call-lts.Need-add-t14 (call-claims t) (call-at t) call.Post
-  call-add-t14 c = omega (arith, enough (c .before .before .before))
+  call-add-t15 : call-lts.Need-add-t15 (call-claims t) (call-at t) call.Post
+  call-add-t15 c = omega (arith, enough (c .before .before .before))
 
   call-returns-2 : call-lts.Need-returns-2 (call-claims t) (call-at t) call.Post
   unfolding answerIn stateIn
   call-returns-2 c =
-      let chosen = c .before .before in
-      sym (in-clear _ _ _ _ _ _ (chosen .choose .result) (enough (chosen .before)) (first chosen) (c .before .if2 .taken))
+      let d = c .before .before in
+      sym (in-clear _ _ _ _ _ _ (enough (d .before)) _ (first d) (c .before .if2 .taken))
 
-  call-add-t17 : call-lts.Need-add-t17 (call-claims t) (call-at t) call.Post
-  call-add-t17 c = omega (arith, enough (c .before .before .before))
+  call-add-t16 : call-lts.Need-add-t16 (call-claims t) (call-at t) call.Post
+  call-add-t16 c = omega (arith, enough (c .before .before .before))
 
   call-returns-3 : call-lts.Need-returns-3 (call-claims t) (call-at t) call.Post
   unfolding answerIn stateIn
   call-returns-3 c =
-      let chosen = c .before .before in
-      let choice = chosen .choose .result in
-      ⊎-elim
-      (λ q. sym (in-none _ _ _ _ _ _ choice (enough (chosen .before)) (first chosen) (c .before .if2 .left) (q .taken)))
-      (λ q.
-      let dead = ltb-true _ _ (q .1 .taken) in
-      sym (in-dead _ _ _ _ _ _ choice (enough (chosen .before)) (first chosen) (c .before .if2 .left) (q .0 .left) dead))
-      (c .if3 .came)
+      let d = c .before .before in
+      sym (in-none _ _ _ _ _ _ (enough (d .before)) _ (first d) (c .before .if2 .left) (c .if3 .taken))
 
-  -- there is a clause to branch on, and a flip for the calls of its literals
-  module _ (c : call-lts.Else4 (call-claims t) (call-at t) call.Post) where
-    inside : let chosen = c .before .before .before in chosen .choose .result .clause < chosen .before .before .before .args .k
-    inside =
-        let chosen = c .before .before .before in
-        let alive = ltb-false (chosen .before .before .before .args .k) (chosen .choose .result .clause) (c .if4 .left) in
-        omega (arith, c .before .before .if2 .left, alive)
+  -- a flip is left, so that no clause is dead and what is forced is known
+  module _ (c : call-lts.Else3 (call-claims t) (call-at t) call.Post) where
+    abbrev found : call-lts.After-next (call-claims t) (call-at t) call.Post
+    found = c .before .before
 
-    tried-with : let chosen = c .before .before .before in
-        let a = chosen .before .before .before .args in
-        Trying (a .k) (a .cells .now) (a .occ .now) (a .planes .now) (stateIn (a .at)) (chosen .choose .result) 0 (a .left)
-        (a .calls + 1) (a .budget)
+    abbrev start : call-lts.Start (call-claims t) (call-at t) call.Post
+    start = found .before .before .before
+
+    there : found .next .result < start .args .k
+    there = omega (arith, first found .within, c .before .if2 .left)
+
+    stands : let a = start .args in Standing (a .k) (a .cells .now) (stateIn (a .at)) (setOf (a .at .forced))
+    stands = start .pre .1 .1 .1 (pos-of-ne-zero (c .if3 .left))
+
+  call-choose-requires : call-lts.Need-choose-requires (call-claims t) (call-at t) call.Post
+  call-choose-requires c κs =
+      let p = start c .pre .1 in
+      (record { cells = start c .args .cells .now; ready = p .0; shows = p .1 .0 }, there c)
+
+  -- the clause that is taken, and what its literals are tried with
+  module _ (c : call-lts.After-choose (call-claims t) (call-at t) call.Post) where
+    abbrev from : call-lts.Start (call-claims t) (call-at t) call.Post
+    from = start (c .before)
+
+    taken : let a = from .args in Selected (a .k) (a .cells .now) (stateIn (a .at)) (c .choose .result)
+    taken = let p = from .pre .1 in c .choose .ensures _ (p .0) (p .1 .0) (stands (c .before)) (first (found (c .before)))
+
+    tried-with : let a = from .args in
+        Trying (a .k) (a .cells .now) (a .occ .now) (a .planes .now) (stateIn (a .at)) (setOf (a .at .forced)) (c .choose .result) 0
+        (a .left) (a .calls + 1) (a .budget)
     tried-with =
-        let chosen = c .before .before .before in
-        let s = chosen .before .before .before in
         record {
-          ready = s .pre .1 .0;
-          shows = s .pre .1 .1;
-          branch = first chosen .branch inside;
+          ready = from .pre .1 .0;
+          shows = from .pre .1 .1 .0;
+          standing = stands (c .before);
+          inside = taken .inside;
+          failing = taken .failing;
           flips = pos-of-ne-zero (c .before .if3 .left);
-          enough = omega (arith, enough (chosen .before));
+          enough = omega (arith, enough (found (c .before) .before));
           more = omega arith;
         }
 
     -- what the call gives is what its literals give
-    call-gives : let chosen = c .before .before .before in
-        let a = chosen .before .before .before .args in
-        let clause = clauseAt (a .cells .now) (chosen .choose .result .clause) in
+    call-gives : let a = from .args in
         settle (a .budget) (a .calls) (callFrom (a .k) (a .cells .now) (a .left) (stateIn (a .at))) ≡
-        settle (a .budget) (a .calls + 1) (literalsFrom (a .k) (a .cells .now) (a .left) (stateIn (a .at)) clause)
+        settle (a .budget) (a .calls + 1)
+        (literalsFrom (a .k) (a .cells .now) (a .left) (stateIn (a .at)) (clauseAt (a .cells .now) (c .choose .result)))
     call-gives =
-        let chosen = c .before .before .before in
-        in-literals _ _ _ _ _ _ (chosen .choose .result) (enough (chosen .before)) (first chosen) (c .before .before .if2 .left)
-        (c .before .if3 .left) inside
+        let d = c .before in
+        in-literals _ _ _ _ _ _ (enough (found d .before)) _ (first (found d)) (d .before .if2 .left) (d .if3 .left) _ (stands d) _ taken
 
   call-add-last-literals : call-lts.Need-add-last-literals (call-claims t) (call-at t) call.Post
-  call-add-last-literals c = omega (arith, enough (c .before .before .before .before .before))
+  call-add-last-literals c = omega (arith, enough (found (c .before .before) .before))
 
   call-last-literals-requires : call-lts.Need-last-literals-requires (call-claims t) (call-at t) call.Post
-  call-last-literals-requires c κs = rw (c .if5 .taken) at (tried-with (c .before))
+  call-last-literals-requires c κs =
+      let d = c .before in
+      let a = from d .args in
+      let with : ℕ → Type 0 = λ x.
+      Trying (a .k) (a .cells .now) (a .occ .now) (a .planes .now) (stateIn (a .at)) (setOf (a .at .forced)) (d .choose .result) 0 x
+      (a .calls + 1) (a .budget) in
+      subst with (c .if4 .taken) (tried-with d)
 
   call-returns-4 : call-lts.Need-returns-4 (call-claims t) (call-at t) call.Post
-  call-returns-4 c = rw (call-gives (c .before .before), c .before .if5 .taken) (c .last-literals .ensures)
+  call-returns-4 c =
+      let d = c .before .before in
+      let a = from d .args in
+      let gives : ℕ → Answer = λ x.
+      settle (a .budget) (a .calls + 1)
+      (literalsFrom (a .k) (a .cells .now) x (stateIn (a .at)) (clauseAt (a .cells .now) (d .choose .result))) in
+      c .last-literals .ensures ∙ ap gives (sym (c .before .if4 .taken)) ∙ sym (call-gives d)
 
   call-add-literals : call-lts.Need-add-literals (call-claims t) (call-at t) call.Post
-  call-add-literals c = omega (arith, enough (c .before .before .before .before .before))
+  call-add-literals c = omega (arith, enough (found (c .before .before) .before))
 
   call-literals-requires : call-lts.Need-literals-requires (call-claims t) (call-at t) call.Post
   call-literals-requires c κs =
-      let d = c .before in
-      let s = d .before .before .before .before .before .before in
-      let w = tried-with d in
-      (omega (arith, s .pre .0, trying-row w .short, w .flips), w)
+      let w = tried-with (c .before) in
+      (omega (arith, from (c .before) .pre .0, trying-row w .short, w .flips), w)
 
   call-returns-5 : call-lts.Need-returns-5 (call-claims t) (call-at t) call.Post
   call-returns-5 c = c .literals .ensures ∙ sym (call-gives (c .before .before))
@@ -214,11 +247,11 @@ module _ (t : ℕ) where
 -- ---- its literals
 
 abbrev Inv-loop : literals-lts.InvT-loop
-Inv-loop cells occ k planes at choice left calls budget clause size next₀ made₀ j₀ next made j =
-    Turn k cells occ planes (stateIn at) choice left calls budget made j × (length next ≡ planeCells)
+Inv-loop cells occ k planes at clause left calls budget size next₀ made₀ j₀ next made j =
+    Turn k cells occ planes (stateIn at) (setOf (at .forced)) clause left calls budget made j × (length next ≡ planeCells)
 
 abbrev μ-loop : literals-lts.MeasureT-loop
-μ-loop cells occ k planes at choice left calls budget clause size next₀ made₀ j₀ next made j = size - j
+μ-loop cells occ k planes at clause left calls budget size next₀ made₀ j₀ next made j = size - j
 
 module _ (t : ℕ) where
   literals-length-at-requires : literals-lts.Need-length-at-requires (literals-claims t) (literals-at t) literals.Post Inv-loop μ-loop
@@ -229,30 +262,35 @@ module _ (t : ℕ) where
 
   -- there is a literal j
   more : (c : literals-lts.In-loop (literals-claims t) (literals-at t) literals.Post Inv-loop μ-loop) →
-      let a = c .before .before .before .args in c .before .loop .j < lengthAt (a .cells .now) (a .choice .clause)
+      let a = c .before .before .before .args in c .before .loop .j < lengthAt (a .cells .now) (a .clause)
   more c = omega (arith, c .loop-test .taken, c .before .before .length-at .ensures)
-
-  literals-tries-requires : literals-lts.Need-tries-requires (literals-claims t) (literals-at t) literals.Post Inv-loop μ-loop
-  literals-tries-requires c κs = omega (arith, trying-row (c .before .loop .inv .0 .trying) .short, more c)
-
-  -- the literal is tried
-  tried : (c : literals-lts.Then1 (literals-claims t) (literals-at t) literals.Post Inv-loop μ-loop) →
-      let d = c .before .before .before in bit (d .before .before .args .choice .tried) (d .loop .j) ≡ true
-  tried c = sym (c .before .tries .ensures) ∙ c .if1 .taken
 
   literals-literal-at-requires : literals-lts.Need-literal-at-requires (literals-claims t) (literals-at t) literals.Post Inv-loop μ-loop
   literals-literal-at-requires c κs =
-      let d = c .before .before in
-      let row = trying-row (d .before .loop .inv .0 .trying) in
-      (row .inside, omega (arith, row .short, more d))
+      let row = trying-row (c .before .loop .inv .0 .trying) in
+      (row .inside, omega (arith, row .short, more c))
+
+  literals-is-free-requires : literals-lts.Need-is-free-requires (literals-claims t) (literals-at t) literals.Post Inv-loop μ-loop
+  literals-is-free-requires c κs =
+      rw (c .literal-at .ensures) (trying-known (c .before .before .loop .inv .0 .trying) (more (c .before)))
+
+  -- whether the literal is tried
+  told : (c : literals-lts.After-is-free (literals-claims t) (literals-at t) literals.Post Inv-loop μ-loop) →
+      let d = c .before .before in free (d .before .loop .inv .0 .trying) (more d) ≡ c .is-free .result
+  told c = sym (rw (c .before .literal-at .ensures) at (c .is-free .ensures))
+
+  tried : (c : literals-lts.Then1 (literals-claims t) (literals-at t) literals.Post Inv-loop μ-loop) →
+      let d = c .before .before .before in free (d .before .loop .inv .0 .trying) (more d) ≡ true
+  tried c = told (c .before) ∙ c .if1 .taken
 
   literals-attempt-requires : literals-lts.Need-attempt-requires (literals-claims t) (literals-at t) literals.Post Inv-loop μ-loop
   literals-attempt-requires c κs =
-      let e = c .before .before in
-      let d = e .before .before in
+      let e = c .before in
+      let at = e .before .before in
+      let d = at .before in
       let inv = d .before .loop .inv in (
         omega (arith, d .before .before .before .pre .0, more d),
-        (rw (c .before .literal-at .ensures) (trying-attempt (inv .0 .trying) (more d) (tried e)), inv .1),
+        (rw (at .literal-at .ensures) (trying-attempt (inv .0 .trying) (more d) (tried e)), inv .1),
       )
 
   literals-enum-known-tried : literals-lts.Need-enum-known-tried (literals-claims t) (literals-at t) literals.Post Inv-loop μ-loop
@@ -262,40 +300,40 @@ module _ (t : ℕ) where
   gave : (c : literals-lts.After-attempt (literals-claims t) (literals-at t) literals.Post Inv-loop μ-loop) →
       let turn = c .before .before .before .before .before .before in
       let a = turn .before .before .args in
-      let literal = literalOf (literalAt (a .cells .now) (a .choice .clause) (turn .loop .j)) in
+      let literal = literalOf (literalAt (a .cells .now) (a .clause) (turn .loop .j)) in
       answerIn (c .attempt .result)
       ≡ settle (a .budget) (turn .loop .made) (callFrom (a .k) (a .cells .now) (a .left - 1) (flip (stateIn (a .at)) literal))
-  gave c = rw (c .before .before .literal-at .ensures) at (c .attempt .ensures .0)
+  gave c = rw (c .before .before .before .before .literal-at .ensures) at (c .attempt .ensures .0)
 
   literals-returns : literals-lts.Need-returns (literals-claims t) (literals-at t) literals.Post Inv-loop μ-loop
   literals-returns c =
       let a = c .before in
-      let e = a .before .before .before in
-      let d = e .before .before in
+      let e = a .before .before in
+      let d = e .before .before .before in
       turn-stops (d .before .loop .inv .0) (more d) (tried e) _ (gave a) (not-none _ (c .match .keys2))
 
   literals-add-j : literals-lts.Need-add-j (literals-claims t) (literals-at t) literals.Post Inv-loop μ-loop
-  literals-add-j c = let d = c .before .before in omega (arith, more d, trying-row (d .before .loop .inv .0 .trying) .short)
+  literals-add-j c = let d = c .before .before .before in omega (arith, more d, trying-row (d .before .loop .inv .0 .trying) .short)
 
   literals-loop-less : literals-lts.Need-loop-less (literals-claims t) (literals-at t) literals.Post Inv-loop μ-loop
   literals-loop-less c = search needs
 
   literals-loop-again : literals-lts.Need-loop-again (literals-claims t) (literals-at t) literals.Post Inv-loop μ-loop
   literals-loop-again c =
-      let d = c .before .before in
+      let d = c .before .before .before in
       let inv = d .before .loop .inv in
       ⊎-elim
       (λ w.
       let e : literals-lts.Then1 (literals-claims t) (literals-at t) literals.Post Inv-loop μ-loop =
       record { before = c .before; if1 = w .0 } in
       let a : literals-lts.After-attempt (literals-claims t) (literals-at t) literals.Post Inv-loop μ-loop =
-      record { before = record { before = record { before = e; literal-at = w .1 }; next = w .2 }; attempt = w .3 } in
-      let told = w .5 .given in (
-        rw (w .8) (turn-next (inv .0) (more d) (tried e) _ (gave a) (told .0 .0) (told .1)),
-        ap length (w .7) ∙ w .3 .ensures .1,
+      record { before = record { before = e; next = w .1 }; attempt = w .2 } in
+      let told = w .4 .given in (
+        rw (w .7) (turn-next (inv .0) (more d) (tried e) _ (gave a) (told .0 .0) (told .1)),
+        ap length (w .6) ∙ w .2 .ensures .1,
       ))
       (λ w. (
-        rw (w .2) (turn-passed (inv .0) (more d) (sym (c .before .tries .ensures) ∙ w .0 .left)),
+        rw (w .2) (turn-passed (inv .0) (more d) (told (c .before) ∙ w .0 .left)),
         ap length (w .1) ∙ inv .1,
       ))
       (c .if1 .came)
@@ -313,23 +351,44 @@ module _ (t : ℕ) where
       ((s .pre .1 .0 .ready .table .room, s .pre .1 .0 .known), s .pre .1 .1)
 
   attempt-flip-requires-2 : attempt-lts.Need-flip-requires-2 (attempt-claims t) (attempt-at t) attempt.Post
-  attempt-flip-requires-2 c κs = c .before .before .pre .1 .0 .known
+  attempt-flip-requires-2 c κs = c .before .before .before .pre .1 .0 .known
+
+  attempt-force-requires : attempt-lts.Need-force-requires (attempt-claims t) (attempt-at t) attempt.Post
+  attempt-force-requires c κs =
+      let a = c .before .before .before .before .pre .1 .0 in
+      (a .ready .table .room, flip-rows _ (a .known) .1)
 
   attempt-sub-call : attempt-lts.Need-sub-call (attempt-claims t) (attempt-at t) attempt.Post
-  attempt-sub-call c = c .before .before .before .before .pre .1 .0 .flips
+  attempt-sub-call c = c .before .before .before .before .before .before .pre .1 .0 .flips
+
+  -- after the flip: the state, and where its call stands
+  module _ (c : attempt-lts.After-force (attempt-claims t) (attempt-at t) attempt.Post) where
+    abbrev given : attempt-lts.Start (attempt-claims t) (attempt-at t) attempt.Post
+    given = c .before .before .before .before .before
+
+    abbrev after : State
+    after = flip (stateIn (given .args .at)) (literalOf (given .args .literal))
+
+    flipped : stateIn (c .force .result) ≡ after
+    flipped = c .force .ensures .0 ∙ c .before .flip2 .ensures .0
 
   attempt-call-requires : attempt-lts.Need-call-requires (attempt-claims t) (attempt-at t) attempt.Post
   attempt-call-requires c κs =
-      let s = c .before .before .before .before in
+      let d = c .before in
+      let s = given d in
       let a = s .pre .1 .0 in
-      let shown = c .before .before .flip .ensures .shows _ _ (a .ready) (a .tryable) (a .shows) in
-      (omega (arith, s .pre .0, a .flips), (a .ready, rw (c .before .flip2 .ensures) shown))
+      let shown = d .before .before .before .flip .ensures .shows _ _ (a .ready) (a .tryable) (a .shows) in
+      let moved = d .before .flip2 .ensures in
+      let told = forces-same (moved .0) (ap setOf (moved .1)) (d .force .ensures .1 _ (a .ready) (rw (moved .0) shown)) in
+      let stands = standing-flip _ _ (a .ready .table) _ (a .known) _ (a .tryable) _ _ (a .standing) (a .kept) told in
+      (omega (arith, s .pre .0, a .flips), (a .ready, (rw (flipped d) shown, λ h. rw (flipped d) stands)))
 
   attempt-returns : attempt-lts.Need-returns (attempt-claims t) (attempt-at t) attempt.Post
   attempt-returns c =
-      let s = c .before .before .before .before .before .args in
+      let d = c .before .before in
+      let s = given d .args in
       let from : State → Answer = λ q. settle (s .budget) (s .calls) (callFrom (s .k) (s .cells .now) (s .left - 1) q) in
-      (c .call .ensures ∙ ap from (c .before .before .flip2 .ensures), c .before .before .before .flip .ensures .size)
+      (c .call .ensures ∙ ap from (flipped d), d .before .before .before .flip .ensures .size)
 
 pub +attempt+call+literals-spec : {M : Type 1} → statement M
 +attempt+call+literals-spec =
@@ -338,6 +397,7 @@ pub +attempt+call+literals-spec : {M : Type 1} → statement M
     attempt-lts.spec (attempt-claims t) (attempt-at t) attempt.Post
     (attempt-flip-requires t)
     (attempt-flip-requires-2 t)
+    (attempt-force-requires t)
     (attempt-sub-call t)
     (attempt-call-requires t)
     (attempt-returns t))
@@ -345,11 +405,12 @@ pub +attempt+call+literals-spec : {M : Type 1} → statement M
     call-lts.spec (call-claims t) (call-at t) call.Post
     (call-exhausted-requires t)
     (call-returns t)
-    (call-choose-requires t)
-    (call-add-t14 t)
+    (call-next-requires t)
+    (call-add-t15 t)
     (call-returns-2 t)
-    (call-add-t17 t)
+    (call-add-t16 t)
     (call-returns-3 t)
+    (call-choose-requires t)
     (call-add-last-literals t)
     (call-last-literals-requires t)
     (call-returns-4 t)
@@ -360,8 +421,8 @@ pub +attempt+call+literals-spec : {M : Type 1} → statement M
     literals-lts.spec (literals-claims t) (literals-at t) literals.Post Inv-loop μ-loop
     (literals-length-at-requires t)
     (literals-loop-holds t)
-    (literals-tries-requires t)
     (literals-literal-at-requires t)
+    (literals-is-free-requires t)
     (literals-attempt-requires t)
     (literals-enum-known-tried t)
     (literals-returns t)

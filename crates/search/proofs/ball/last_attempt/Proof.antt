@@ -14,7 +14,7 @@ exhausted-requires : tie.Need-exhausted-requires
 exhausted-requires c κs = search needs
 
 returns : tie.Need-returns
-returns c = last-spent _ _ _ _ _ _ _ (leb-true _ _ (sym (c .before .exhausted .ensures) ∙ c .if1 .taken))
+returns c = last-spent _ _ _ _ _ _ _ _ (leb-true _ _ (sym (c .before .exhausted .ensures) ∙ c .if1 .taken))
 
 -- a call is left
 enough : (c : tie.Else1) → let a = c .before .before .args in a .calls < a .budget
@@ -33,14 +33,14 @@ returns-2 : tie.Need-returns-2
 unfolding stateIn
 returns-2 c =
     let e = c .before .before .before in
-    let model = ap (λ (q : State). q .assignment) (c .before .flip .ensures) in
-    last-clear _ _ _ _ _ _ _ _ (e .all-true-after .ensures) (enough (e .before)) (c .before .before .if2 .taken) _ model
+    let model = ap (λ (q : State). q .assignment) (c .before .flip .ensures .0) in
+    last-clear _ _ _ _ _ _ _ _ _ (e .all-true-after .ensures) (enough (e .before)) (c .before .before .if2 .taken) _ model
 
 add-t13 : tie.Need-add-t13
 add-t13 c = omega (arith, enough (c .before .before))
 
 returns-3 : tie.Need-returns-3
-returns-3 c = let e = c .before in last-none _ _ _ _ _ _ _ _ (e .all-true-after .ensures) (enough (e .before)) (c .if2 .left)
+returns-3 c = let e = c .before in last-none _ _ _ _ _ _ _ _ _ (e .all-true-after .ensures) (enough (e .before)) (c .if2 .left)
 
 pub last-attempt-spec : {M : Type 1} → statement M
 last-attempt-spec =

@@ -3,19 +3,21 @@ use mathlib.Core.Path.{sym, ap, _∙_}
 use Prim.Native.Nat.{_-_, _<_}
 use native.Mathlib.Omega.{arith}
 use Rattle.words.specs.Bits.{width}
+use Rattle.words.specs.Machine.{bitsOf}
 use Rattle.formula.specs.Machine.{Row, lengthAt}
 use Rattle.formula.specs.TableLaws.{held-at, held-past, table-row, clause-known}
 use Rattle.search.specs.Ball.{reading}
-use Rattle.search.specs.Machine.{stateIn, readingIn, Counting}
+use Rattle.search.specs.Machine.{readingIn, Counting}
 use Rattle.search.specs.ClauseLaws.{counting-none, counting-start, counting-small, counting-next, counting-end}
 use Rattle.search.proofs.reading.clause_reading.Statement.{statement}
 use Rattle.search.proofs.reading.clause_reading.Tie as tie
 
 abbrev Inv-loop : tie.InvT-loop
-Inv-loop cells k i at reading₀ length j₀ reading j = Counting (stateIn at) cells i j (readingIn reading)
+Inv-loop cells k i assignment flipped reading₀ length j₀ reading j =
+    Counting (record { assignment = bitsOf assignment; flipped = bitsOf flipped }) cells i j (readingIn reading)
 
 abbrev μ-loop : tie.MeasureT-loop
-μ-loop cells k i at reading₀ length j₀ reading j = length - j
+μ-loop cells k i assignment flipped reading₀ length j₀ reading j = length - j
 
 returns : tie.Need-returns Inv-loop μ-loop
 unfolding readingIn
@@ -73,7 +75,6 @@ loop-again c =
     counting-next _ _ _ (row (turn .before .before .before)) _ _ (turn .before .loop .inv) _ (more turn) counted
 
 returns-2 : tie.Need-returns-2 Inv-loop μ-loop
-unfolding stateIn
 returns-2 c =
     let clause = c .before .before .before in
     let a = clause .before .args in

@@ -1,5 +1,5 @@
 -- `Path::flip` meets its contract: both numbers are toggled at the literal's bitOf.
-use mathlib.Core.Path.{ap₂}
+use mathlib.Core.Path.{refl, ap₂}
 use Prim.Native.Nat.{ℕ}
 use borrow.Author.Needs.{needs}
 use Rattle.formula.specs.Formula.{bitOf, literalOf}
@@ -22,7 +22,10 @@ toggled-requires-2 c κs = search needs
 
 returns : tie.Need-returns
 unfolding stateIn flip bitOf literalOf
-returns c = ap₂ {C = State} (λ (a f : ℕ). record { assignment = a; flipped = f }) (c .before .toggled .ensures) (c .toggled2 .ensures)
+returns c = (
+  ap₂ {C = State} (λ (a f : ℕ). record { assignment = a; flipped = f }) (c .before .toggled .ensures) (c .toggled2 .ensures),
+  refl,
+)
 
 pub flip-spec : {M : Type 1} → statement M
 flip-spec = tie.close (tie.spec sub-toggled toggled-requires sub-toggled-2 toggled-requires-2 returns)
