@@ -18,8 +18,8 @@ use Rattle.words.specs.ListLaws.{keep-in, in-keep, in-span, span-in, in-some, s
 use Rattle.words.specs.Bits.{distance}
 use Rattle.code.specs.Covering.{Within}
 use Rattle.code.specs.Code.{wordsOf, near, ball, gain, beats, best, chosen, without, greedy, code}
-use Rattle.code.specs.KeepLaws.{keep-all, keep-same, keep-split}
-use Rattle.code.specs.CodeLaws.{best-le, chosen-lt, chosen-gains, words-within}
+use Rattle.code.specs.KeepLaws.{words-within, keep-all, keep-same, keep-split}
+use Rattle.code.specs.ChosenLaws.{best-le, chosen-lt, chosen-gains}
 use Rattle.code.specs.VolumeLaws.{ball-size}
 use Rattle.code.specs.Machine.{flagged, listed, Offsets, Counts, Growing, Filled}
 use Rattle.code.specs.Operations.{written}

@@ -2,12 +2,14 @@
 use mathlib.Core.Path.{_≡_, refl, ap}
 use mathlib.Core.Bool.{Bool, true, false, cond, not, _&&_, and-comm, false≢true}
 use mathlib.Core.List.{List, [], _∷_, _++_, List·Memᴰ·head, List·Memᴰ·tail}
-use Prim.Native.Nat.{ℕ, zero, suc, _+_, _≤_, zero-le, suc-le-suc, _<_}
+use Prim.Native.Nat.{ℕ, zero, suc, _+_, _^_, _≤_, _<_, zero-le, suc-le-suc}
 use native.Mathlib.Nat.{zero-add, add-zero, suc-add, add-suc}
 use native.Mathlib.Omega.{arith}
 use lib.ListN.{length}
 use Rattle.words.specs.Lists.{keep, span, In}
-use Rattle.words.specs.ListLaws.{length-keep}
+use Rattle.words.specs.ListLaws.{length-keep, span-in}
+use Rattle.code.specs.Covering.{Within}
+use Rattle.code.specs.Code.{wordsOf}
 
 module _ {A : Type 0} where
   pub length-in : {x : A} {xs : List A} → In x xs → 0 < length xs
@@ -88,6 +90,11 @@ pub span-append : (i m n : ℕ) → span i (m + n) ≡ span i m ++ span (i + m) 
 unfolding span
 span-append i zero n = rw (zero-add, add-zero)
 span-append i (suc m) n = rw (suc-add, add-suc, ← suc-add i m) (ap (λ (l : List ℕ). i ∷ l) (span-append (suc i) m n))
+
+-- the words of length t are the numbers below 2 ^ t
+pub words-within : (t : ℕ) → Within t (wordsOf t)
+unfolding Within wordsOf
+words-within t x i = let l = span-in 0 (2 ^ t) x i in omega arith
 
 -- a run that starts a later passes a test as the run itself passes the shifted test
 pub keep-shift : (p : ℕ → Bool) (a i n : ℕ) → length (keep p (span (a + i) n)) ≡ length (keep (λ x. p (a + x)) (span i n))

@@ -5,8 +5,9 @@ pub mod Volume
 pub mod Operations
 pub mod Machine
 pub mod KeepLaws
-pub mod CodeLaws
 pub mod VolumeLaws
+pub mod ChosenLaws
+pub mod CodeLaws
 pub mod FloorLaws
 pub mod ChooseLaws
 pub mod OperationLaws

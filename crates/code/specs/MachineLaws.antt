@@ -19,7 +19,7 @@ use Rattle.words.specs.Lists.{some, keep, span, In}
 use Rattle.words.specs.ListLaws.{in-some, some-last, span-in, in-span, in-keep}
 use Rattle.words.specs.Bits.{distance}
 use Rattle.code.specs.Code.{near, beats, best}
-use Rattle.code.specs.CodeLaws.{beats-true, beats-false}
+use Rattle.code.specs.ChosenLaws.{beats-true, beats-false}
 use Rattle.code.specs.KeepLaws.{keep-same, keep-keep, length-in, keep-append, span-append}
 use Rattle.code.specs.Machine.{peak, flagged, listed, Offsets, Counts, Lowerable, Lowered, Joining}
 

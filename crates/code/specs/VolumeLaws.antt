@@ -17,8 +17,7 @@ use Rattle.words.specs.BitLaws.{distance-blocks}
 use Rattle.code.specs.Code.{wordsOf, near, ball}
 use Rattle.code.specs.Volume.{choose, volume}
 use Rattle.code.specs.Covering.{Within}
-use Rattle.code.specs.CodeLaws.{words-within}
-use Rattle.code.specs.KeepLaws.{keep-more, keep-same, keep-none, keep-append, keep-shift, span-append}
+use Rattle.code.specs.KeepLaws.{words-within, keep-more, keep-same, keep-none, keep-append, keep-shift, span-append}
 
 choose-zero : (t : ℕ) → choose t 0 ≡ 1
 unfolding choose

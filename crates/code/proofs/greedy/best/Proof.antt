@@ -4,7 +4,7 @@ use Prim.Native.Nat.{ℕ}
 use native.Mathlib.Nat.{ne-of-lt}
 use lib.ListN.{length, getD}
 use Rattle.code.specs.Code.{best}
-use Rattle.code.specs.CodeLaws.{best-lt, best-first}
+use Rattle.code.specs.ChosenLaws.{best-lt, best-first}
 use Rattle.code.specs.MachineLaws.{peak-best}
 use borrow.Author.Needs.{needs}
 use Rattle.code.proofs.greedy.best.Statement.{statement}
