@@ -1,6 +1,7 @@
 // An independent implementation of paper 01 and of papers 1, 2, 4, 5, 6 and 7 of 02, compared with the proved library on many inputs:
 // long and short, valid and damaged, with few variables and up to 128, and for paper 2 tallies of the sheet, of other sheets, and of
-// any numbers. It shares no code with the crates. It prints how many answers of each kind agreed, and every disagreement.
+// any numbers. What paper 8 says of codes and calls is tested on the library's own. It shares no code with the crates. It prints how many
+// answers of each kind agreed, and every disagreement.
 
 use std::collections::{BTreeSet, HashMap};
 
@@ -676,6 +677,45 @@ fn code_agrees(codes: &mut Codes, t: u32, s: u32, cells: usize) -> bool {
         NumberReply { result: words.len() as u32, ..NumberReply::default() }
     };
     library_code(t, s, &mut table) == expected && table == after
+}
+
+// Paper 8 of 02, on the words that the library writes: at each step U' × 2^t is at most U × (2^t − V), and the first one leaves just
+// 2^t − V; as many steps as the floor at least halve U; there are at least as many words as the floor, and at most t × (floor − 1) + 1.
+fn closing_holds(t: u32, s: u32) -> bool {
+    let all = 1usize << t;
+    let (volume, floor) = library_measures(t, s);
+    let (volume, floor) = (volume.result as usize, floor.result as usize);
+    let mut table = vec![0; all];
+    let size = library_code(t, s, &mut table).result as usize;
+    let mut left: Vec<u32> = (0..all as u32).collect();
+    let mut uncovered = vec![all];
+    for word in &table[..size] {
+        left.retain(|x| (x ^ *word as u32).count_ones() > s);
+        uncovered.push(left.len());
+    }
+    let rate = uncovered.windows(2).all(|u| u[1] * all <= u[0] * (all - volume));
+    let halves = (0..=size).all(|k| uncovered.get(k + floor).unwrap_or(&0) * 2 <= uncovered[k]);
+    rate && halves && uncovered[1] == all - volume && uncovered[size] == 0 && (floor..=most_words(t, floor)).contains(&size)
+}
+
+// One step less than the floor halves U too, for only the words outside a ball count: sharper than t × floor + 1.
+fn most_words(t: u32, floor: usize) -> usize {
+    t as usize * (floor - 1) + 1
+}
+
+// Paper 8 of 02: at most so many calls are needed, by the lengths, the radii and the floors of the blocks alone.
+fn most_calls(plan: (u32, u32), sheet: &Sheet) -> u128 {
+    let (b, s) = plan;
+    let k = sheet.terms.iter().map(Vec::len).max().unwrap_or(0) as u128;
+    let lengths = (0..sheet.n).step_by(b as usize).map(|at| b.min(sheet.n - at));
+    let balls = lengths.clone().fold(1u128, |product, t| {
+        let floor = library_measures(t, s.min(t)).1.result as usize;
+        product.saturating_mul(most_words(t, floor) as u128)
+    });
+    let radius: u32 = lengths.map(|t| s.min(t)).sum();
+    // 1 + k × (1 + k × (…)): the sum of the powers of k up to the radius
+    let calls = (0..radius).fold(1u128, |sum, _| sum.saturating_mul(k).saturating_add(1));
+    balls.saturating_mul(calls)
 }
 
 // A null pointer with length 0 is an empty buffer.
@@ -1825,6 +1865,7 @@ struct Totals {
     tried: [u64; 4],
     paid: [u64; 4],
     trials: [u64; 2],
+    within: u64,
     numbers: [u64; 10],
     pairs: [u64; 3],
     terms: [u64; 4],
@@ -1865,6 +1906,8 @@ impl Totals {
         self.check(pairs_agree(), || "a fixed pair differs".into());
         self.check(nothing_agrees(), || "an answer to an empty buffer differs".into());
         self.check(codes_agree(codes), || "codes, volumes or floors differ".into());
+        let closing = (1..=12).all(|t| (0..=t).all(|s| closing_holds(t, s)));
+        self.check(closing, || "a code closes too slowly, or has too many words".into());
         self.check(begins_agree(), || "the beginning of a fixed tally differs".into());
         self.check(toggles_agree(), || "a fixed toggle differs".into());
         self.check(tally_ends_agree(), || "a fixed tally at the end of a word differs".into());
@@ -1940,7 +1983,17 @@ impl Totals {
             format!("plan {:?} budget {} sheet {:?}: expected {:?}, got {:?}", plan, budget, bytes, expected, got)
         });
         self.trial(bytes, got.verdict);
+        self.bounded(plan, bytes, &got);
         got
+    }
+
+    fn bounded(&mut self, plan: (u32, u32), bytes: &[u8], got: &Reply) {
+        if got.verdict != 1 && got.verdict != 2 {
+            return;
+        }
+        let most = read(bytes).map_or(0, |sheet| most_calls(plan, &sheet));
+        self.within += 1;
+        self.check(got.calls as u128 <= most, || format!("plan {:?} sheet {:?}: {} calls, at most {}", plan, bytes, got.calls, most));
     }
 
     // Whatever terms are taken and literals tried, clear is said where there is a model and none where there is not.
@@ -2090,6 +2143,7 @@ impl Totals {
         }
         println!("with bits in words 1 to 4: runs whose code words have them {:?} clear answers {:?}", self.tried, self.paid);
         println!("all assignments tried, n up to 12: clear {} none {}", self.trials[0], self.trials[1]);
+        println!("calls within the bound that needs no code: {}", self.within);
         println!("refusals 1 to 8: {:?}", &numbers[1..9]);
         println!("pairs: refused {} alike {} different {}", pairs[0], pairs[1], pairs[2]);
         println!("terms: refused {} past the last {} false {} true {}", terms[0], terms[1], terms[2], terms[3]);

@@ -1,21 +1,27 @@
--- The word that joins the code next: it has length t, and covers a new word.
-use mathlib.Core.Path.{_≡_, refl, ap}
+-- The word that joins the code next: it has length t, covers a new word, and holds at least the average of what is uncovered.
+use mathlib.Core.Path.{_≡_, refl, sym, ap, _∙_}
 use mathlib.Core.Logic.{_⊎_, inl, inr}
 use mathlib.Core.Bool.{Bool, true, false, cond}
 use mathlib.Core.List.{List}
-use Prim.Native.Nat.{ℕ, zero, suc, _^_, _≤_, _<_, zero-le, suc-le-suc}
-use native.Mathlib.Nat.{le-refl, le-step, le-of-eq, le-of-lt, lt-of-lt-of-le, lt-of-le-of-lt, le-of-suc-le-suc, not-suc-le-zero, eq-or-lt-of-le}
+use Prim.Native.Nat.{ℕ, zero, suc, _+_, _-_, _*_, _^_, _≤_, _<_, zero-le, suc-le-suc}
+use native.Mathlib.Nat.{le-refl, le-step, le-of-eq, le-of-lt, lt-of-lt-of-le, lt-of-le-of-lt, le-of-suc-le-suc, not-suc-le-zero, eq-or-lt-of-le, mul-sub}
 use native.Mathlib.Omega.{arith}
 use borrow.Author.Tests.{ltb-true, ltb-false, leb-true, leb-false}
 use lib.Dec.{leb·zero}
+use lib.Bits.{xor-comm}
+use lib.Count.{ones}
 use lib.ListN.{length}
 use lib.Pow.{pow-pos}
-use Rattle.words.specs.Lists.{keep, In}
-use Rattle.words.specs.ListLaws.{keep-in, in-keep}
+use Rattle.words.specs.Lists.{some, keep, count, span, In}
+use Rattle.words.specs.ListLaws.{keep-in, in-keep, length-span}
+use Rattle.words.specs.Bits.{distance}
 use Rattle.words.specs.BitLaws.{distance-self}
 use Rattle.code.specs.Covering.{Within}
-use Rattle.code.specs.Code.{near, gain, beats, best, chosen, without}
-use Rattle.code.specs.KeepLaws.{length-in, keep-split}
+use Rattle.code.specs.Code.{wordsOf, near, ball, gain, beats, best, chosen, without, greedy, code, outside, uncovered}
+use Rattle.code.specs.Volume.{choose, volume}
+use Rattle.code.specs.Closing.{Rate}
+use Rattle.code.specs.KeepLaws.{length-in, keep-same, keep-split, words-within, total-le, total-same, total-swap}
+use Rattle.code.specs.VolumeLaws.{ball-size}
 
 -- ---- the best number
 
@@ -93,3 +99,40 @@ without-less t s left h x i =
 pub without-within : (t s w : ℕ) (left : List ℕ) → Within t left → Within t (without s w left)
 unfolding Within without
 without-within t s w left h x i = h x (keep-in _ left x i .0)
+
+-- ---- the rate of one step
+
+-- The first two words of the code (4, 1): 11 × 16 ≤ 16 × 11 and 6 × 16 ≤ 11 × 11. (Were the first uncovered word, 3, to join next, it
+-- would be 8 × 16.)
+rate-4-1 : Rate 4 1 (uncovered 4 1 0) (uncovered 4 1 1) × Rate 4 1 (uncovered 4 1 1) (uncovered 4 1 2)
+unfolding Rate uncovered code greedy chosen best beats gain without outside near wordsOf distance ones volume choose some keep span
+rate-4-1 = (leb-true _ _ refl, leb-true _ _ refl)
+
+-- A word is in V(t, s) balls.
+balls-holding : (t s x : ℕ) → x < 2 ^ t → length (keep (λ w. near s w x) (wordsOf t)) ≡ volume t s
+unfolding near distance ball
+balls-holding t s x h = ap length (keep-same _ _ (wordsOf t) (λ w i. rw (xor-comm w x) refl)) ∙ ball-size t s x h
+
+-- No ball holds more of what is left than that of the word that joins,
+chosen-most : (t s : ℕ) (left : List ℕ) (w : ℕ) → w < 2 ^ t → gain s left w ≤ gain s left (chosen t s left)
+unfolding chosen
+chosen-most t s left w l = best-most (gain s left) (2 ^ t) w l
+
+-- and so that one holds at least the average.
+chosen-average : (t s : ℕ) (left : List ℕ) → Within t left → length left * volume t s ≤ 2 ^ t * gain s left (chosen t s left)
+unfolding gain count wordsOf Within
+chosen-average t s left h =
+    let each = total-le _ _ left (λ x i. le-of-eq (sym (balls-holding t s x (h x i)))) in
+    let most = total-le _ _ (wordsOf t) (λ w i. chosen-most t s left w (words-within t w i)) in
+    let all = rw (length-span 0 (2 ^ t)) at (total-same (gain s left (chosen t s left)) (wordsOf t)) in
+    omega (arith, total-same (volume t s) left, total-swap (near s) (wordsOf t) left)
+
+-- of g + u words g get covered, at least the average of n balls of v words
+rest-most : (n v g u : ℕ) → (g + u) * v ≤ n * g → u * n ≤ (g + u) * (n - v)
+rest-most n v g u h = rw mul-sub (omega arith)
+
+pub step-rate : (t s : ℕ) (left : List ℕ) → Within t left → Rate t s (length left) (length (without s (chosen t s left) left))
+unfolding Rate without gain
+step-rate t s left h =
+    let split = keep-split (near s (chosen t s left)) left in
+    rw (← split) (rest-most _ _ _ _ (rw split (chosen-average t s left h)))

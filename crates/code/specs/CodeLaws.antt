@@ -8,7 +8,7 @@ use native.Mathlib.Nat.{zero-add, zero-mul, suc-mul, le-refl, le-trans, le-of-eq
 use native.Mathlib.Omega.{arith}
 use borrow.Author.Tests.{leb-true, le-leb}
 use lib.ListN.{length, take}
-use lib.Seq.{take-length}
+use lib.Seq.{take-all}
 use Rattle.words.specs.Lists.{some, In}
 use Rattle.words.specs.ListLaws.{in-keep, in-some, in-span, length-span}
 use Rattle.words.specs.Bits.{distance}
@@ -125,7 +125,11 @@ code-closes t s k l =
     greedy-steps (λ before after. length after < length before) t s (λ left x h i. without-less t s left h x i)
     (2 ^ t) (wordsOf t) (words-within t) k l
 
--- and in the end none is left.
-pub code-ends : (t s : ℕ) → uncovered t s (length (code t s)) ≡ 0
+-- past the last word none is left,
+pub code-closed : (t s k : ℕ) → length (code t s) ≤ k → uncovered t s k ≡ 0
 unfolding uncovered
-code-ends t s = rw (take-length (code t s), covers-outside t s (code t s) (code-covers t s))
+code-closed t s k h = rw (take-all k (code t s) h, covers-outside t s (code t s) (code-covers t s))
+
+-- and so in the end.
+pub code-ends : (t s : ℕ) → uncovered t s (length (code t s)) ≡ 0
+code-ends t s = code-closed t s _ (le-refl _)

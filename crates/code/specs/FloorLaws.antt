@@ -4,11 +4,12 @@ use mathlib.Core.Logic.{_⊎_, inl, inr}
 use mathlib.Core.Bool.{Bool, true, false, cond, false≢true}
 use mathlib.Core.List.{List, [], _∷_}
 use Prim.Native.Nat.{ℕ, zero, suc, _+_, _-_, _*_, _/_, _^_, _≤_, _<_, zero-le}
-use native.Mathlib.Nat.{lt-div-mul-add, suc-mul, le-of-suc-le-suc, le-mul-of-pos-right, zero-add, eq-or-lt-of-le, le-antisymm, div-lt-iff-lt-mul}
+use native.Mathlib.Nat.{lt-of-not-le, lt-div-mul-add, suc-mul, le-of-suc-le-suc, le-mul-of-pos-right, zero-add, eq-or-lt-of-le, le-antisymm, div-lt-iff-lt-mul}
 use native.Mathlib.Omega.{arith}
 use borrow.Author.Tests.{leb-true, le-leb}
 use lib.Dec.{leb}
 use lib.ListN.{length}
+use lib.Pow.{pow-pos}
 use Rattle.words.specs.Lists.{first, span}
 use Rattle.words.specs.ListLaws.{length-span}
 use Rattle.code.specs.Covering.{Covers}
@@ -53,6 +54,17 @@ floor-enough t s =
 pub floor-least : (t s m : ℕ) → 2 ^ t ≤ m * volume t s → floor t s ≤ m
 unfolding floor
 floor-least t s m h = first-least (λ n. leb (2 ^ t) (n * volume t s)) 0 (2 ^ t) (2 ^ t) m (sym (zero-add _)) zero-le (le-leb _ _ h)
+
+pub floor-pos : (t s : ℕ) → 0 < floor t s
+floor-pos t s = go (floor t s) (floor-enough t s)
+  where
+    go : (m : ℕ) → 2 ^ t ≤ m * volume t s → 0 < m
+    go zero h = absurd (omega (arith, pow-pos t))
+    go (suc m) h = omega arith
+
+-- One ball less than the floor is not enough.
+pub floor-less : (t s : ℕ) → (floor t s - 1) * volume t s < 2 ^ t
+floor-less t s = lt-of-not-le (λ h. omega (arith, floor-least t s (floor t s - 1) h, floor-pos t s))
 
 -- No covering code, of any words, has fewer words.
 pub sphere-bound : (t s : ℕ) (c : List ℕ) → Covers t s c → floor t s ≤ length c

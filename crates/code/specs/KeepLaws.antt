@@ -1,12 +1,12 @@
--- Laws of keep, the elements of a list that pass a test, and of its length.
-use mathlib.Core.Path.{_≡_, refl, ap}
+-- Laws of keep, the elements of a list that pass a test, and of its length; of runs of numbers, and of sums over a list.
+use mathlib.Core.Path.{_≡_, refl, sym, ap, _∙_}
 use mathlib.Core.Bool.{Bool, true, false, cond, not, _&&_, and-comm, false≢true}
 use mathlib.Core.List.{List, [], _∷_, _++_, List·Memᴰ·head, List·Memᴰ·tail}
-use Prim.Native.Nat.{ℕ, zero, suc, _+_, _^_, _≤_, _<_, zero-le, suc-le-suc}
-use native.Mathlib.Nat.{zero-add, add-zero, suc-add, add-suc}
+use Prim.Native.Nat.{ℕ, zero, suc, _+_, _*_, _^_, _≤_, _<_, zero-le, suc-le-suc}
+use native.Mathlib.Nat.{zero-add, add-zero, suc-add, add-suc, add-le-add, zero-mul, mul-zero, suc-mul}
 use native.Mathlib.Omega.{arith}
 use lib.ListN.{length}
-use Rattle.words.specs.Lists.{keep, span, In}
+use Rattle.words.specs.Lists.{keep, count, span, In}
 use Rattle.words.specs.ListLaws.{length-keep, span-in}
 use Rattle.code.specs.Covering.{Within}
 use Rattle.code.specs.Code.{wordsOf}
@@ -107,3 +107,40 @@ keep-shift p a i (suc n) = go (p (a + i)) (rw (← add-suc a i) (keep-shift p a 
         ≡ length (cond b (i ∷ keep (λ x. p (a + x)) (span (suc i) n)) (keep (λ x. p (a + x)) (span (suc i) n)))
     go true h = ap suc h
     go false h = h
+
+-- ---- sums over a list
+
+-- the sum of f over the elements
+pub total : (ℕ → ℕ) → List ℕ → ℕ
+total f [] = 0
+total f (x ∷ xs) = f x + total f xs
+
+pub total-le : (f g : ℕ → ℕ) (xs : List ℕ) → ((x : ℕ) → In x xs → f x ≤ g x) → total f xs ≤ total g xs
+unfolding total
+total-le f g [] h = zero-le
+total-le f g (x ∷ xs) h = add-le-add (h x (List·Memᴰ·head refl)) (total-le f g xs (λ y i. h y (List·Memᴰ·tail i)))
+
+pub total-same : (n : ℕ) (xs : List ℕ) → total (λ x. n) xs ≡ length xs * n
+unfolding total
+total-same n [] = sym (zero-mul n)
+total-same n (x ∷ xs) = rw suc-mul (omega (arith, total-same n xs))
+
+module _ (p : ℕ → ℕ → Bool) where
+  total-cons : (x : ℕ) (xs ys : List ℕ) →
+      total (λ y. count (λ z. p z y) (x ∷ xs)) ys ≡ count (p x) ys + total (λ y. count (λ z. p z y) xs) ys
+  unfolding total count keep
+  total-cons x xs [] = refl
+  total-cons x xs (y ∷ ys) = go (p x y) (total-cons x xs ys)
+    where
+      go : (b : Bool) →
+          total (λ y′. count (λ z. p z y′) (x ∷ xs)) ys ≡ count (p x) ys + total (λ y′. count (λ z. p z y′) xs) ys →
+          length (cond b (x ∷ keep (λ z. p z y) xs) (keep (λ z. p z y) xs)) + total (λ y′. count (λ z. p z y′) (x ∷ xs)) ys
+          ≡ length (cond b (y ∷ keep (p x) ys) (keep (p x) ys)) + (count (λ z. p z y) xs + total (λ y′. count (λ z. p z y′) xs) ys)
+      go true h = omega arith
+      go false h = omega arith
+
+  -- The pairs that pass, counted from either side.
+  pub total-swap : (xs ys : List ℕ) → total (λ x. count (p x) ys) xs ≡ total (λ y. count (λ x. p x y) xs) ys
+  unfolding total count keep
+  total-swap [] ys = sym (total-same 0 ys ∙ mul-zero _)
+  total-swap (x ∷ xs) ys = ap (λ (n : ℕ). count (p x) ys + n) (total-swap xs ys) ∙ sym (total-cons x xs ys)

@@ -4,8 +4,9 @@ use mathlib.Core.Logic.{_↔_}
 use mathlib.Core.Bool.{Bool, true, false, cond}
 use mathlib.Core.List.{List}
 use Prim.Native.Nat.{ℕ, _*_, _^_, _≤_, _<_}
-use native.Mathlib.Nat.{le-trans}
+use native.Mathlib.Nat.{le-trans, mul-le-mul-right}
 use native.Mathlib.Omega.{arith}
+use lib.ListN.{length}
 use lib.Pow.{pow-mono, pow-pos}
 use Rattle.words.specs.Bits.{width}
 use Rattle.words.specs.WordLaws.{words-number}
@@ -23,8 +24,8 @@ use Rattle.tree.specs.Budget as Budget
 use Rattle.tree.specs.Budget.{answer}
 use Rattle.tree.specs.BudgetLaws.{countOf, assignmentOf}
 use Rattle.tree.specs.Decides.{Decides, IsClear, IsNone, IsSpent, Correct, answer-correct, answer-stays, further-none}
-use Rattle.search.specs.Run.{Plan, blocks, centreCount, summedRadius, longest}
-use Rattle.search.specs.CentreLaws.{Covering}
+use Rattle.search.specs.Run.{Plan, Code, blocks, centreCount, summedRadius, product, longest}
+use Rattle.search.specs.CentreLaws.{Covering, radius-same, blocks-most}
 use Rattle.search.specs.RunLaws.{formula-decides, formula-bounded}
 use Rattle.engine.specs.declared.Reply.{Reply}
 use Rattle.engine.specs.Right.{Accepted, Answered, bad-plan, bad-sheet, is-clear, is-none, is-spent, Right}
@@ -43,6 +44,14 @@ pub outcome-bounded : (p : Plan) (f : Formula) → WellFormed f →
     calls (outcome p f) ≤ centreCount (blocks code p (f .n)) * powers (longest (f .clauses)) (summedRadius (blocks code p (f .n)))
 unfolding outcome
 outcome-bounded p f h = formula-bounded code covering p f h
+
+-- any bound on the codes' words gives one on the calls
+pub outcome-planned : (most : ℕ → ℕ → ℕ) → ((t s : ℕ) → length (code t s) ≤ most t s) → (any : Code) (p : Plan) (f : Formula) →
+    WellFormed f →
+    calls (outcome p f) ≤ product most (blocks any p (f .n)) * powers (longest (f .clauses)) (summedRadius (blocks any p (f .n)))
+outcome-planned most h any p f formed =
+    rw (radius-same any code p (f .n))
+    (le-trans (outcome-bounded p f formed) (mul-le-mul-right _ (blocks-most code most h any p (f .n))))
 
 -- ---- replies
 

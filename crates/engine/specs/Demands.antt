@@ -11,14 +11,16 @@ use Rattle.formula.specs.Sets.{stands}
 use Rattle.code.specs.Covering.{Covers}
 use Rattle.code.specs.Code.{code}
 use Rattle.code.specs.CodeLaws.{code-covers}
+use Rattle.code.specs.Closing.{mostWords, sharpWords}
+use Rattle.code.specs.ClosingLaws.{code-most, code-sharp}
 use Rattle.code.specs.Operations.{coded?}
 use Rattle.alike.specs.Alike.{alike}
 use Rattle.alike.specs.AlikeLaws.{alike-stands}
 use Rattle.tree.specs.Explore.{calls, powers}
-use Rattle.search.specs.Run.{Plan, blocks, centreCount, summedRadius, longest}
+use Rattle.search.specs.Run.{Plan, Code, blocks, centreCount, summedRadius, product, longest}
 use Rattle.engine.specs.Answers.{outcome, replyTo, REFUSED, CLEAR, NONE, SPENT}
 use Rattle.engine.specs.Right.{Accepted, Answered, Right}
-use Rattle.engine.specs.DemandLaws.{outcome-bounded, reply-answered, reply-right, reply-stays, none-further, none-plan}
+use Rattle.engine.specs.DemandLaws.{outcome-bounded, outcome-planned, reply-answered, reply-right, reply-stays, none-further, none-plan}
 
 -- ---- demand 1
 
@@ -47,6 +49,16 @@ demand-2-covering = code-covers
 pub demand-3-bound : (p : Plan) (s : List ℕ) (f : Formula) → Accepted p s f →
     calls (outcome p f) ≤ centreCount (blocks code p (f .n)) * powers (longest (f .clauses)) (summedRadius (blocks code p (f .n)))
 demand-3-bound p s f h = outcome-bounded p f (parse-well-formed s f (h .sheet))
+
+-- The same without the codes (02, paper 8): M ≤ the product of t × floor(t, s) + 1 over the blocks, whatever codes these have,
+pub demand-3-planned : (p : Plan) (s : List ℕ) (f : Formula) → Accepted p s f → (any : Code) →
+    calls (outcome p f) ≤ product mostWords (blocks any p (f .n)) * powers (longest (f .clauses)) (summedRadius (blocks any p (f .n)))
+demand-3-planned p s f h any = outcome-planned mostWords code-most any p f (parse-well-formed s f (h .sheet))
+
+-- and, sharper, that of t × (floor(t, s) − 1) + 1.
+pub demand-3-sharp : (p : Plan) (s : List ℕ) (f : Formula) → Accepted p s f → (any : Code) →
+    calls (outcome p f) ≤ product sharpWords (blocks any p (f .n)) * powers (longest (f .clauses)) (summedRadius (blocks any p (f .n)))
+demand-3-sharp p s f h any = outcome-planned sharpWords code-sharp any p f (parse-well-formed s f (h .sheet))
 
 -- A clear or none stays the same under every larger budget.
 pub demand-3-budget : (p : Plan) (A B : ℕ) (s : List ℕ) → A ≤ B → (replyTo p A s .verdict ≡ SPENT → ⊥) →

@@ -5,7 +5,7 @@ use mathlib.Core.Logic.{⊎-elim}
 use mathlib.Core.Bool.{Bool, true, false, cond}
 use mathlib.Core.List.{List, [], _∷_, _++_, List·Memᴰ·head, List·Memᴰ·tail, List·Memᴰ·not-nil, List·Memᴰ·cases-cons, List·Memᴰ·append-cases, List·Memᴰ·eq-of-singleton}
 use Prim.Native.Nat.{ℕ, zero, suc, _+_, _*_, _/_, _%_, _^_, _≤_, _<_}
-use native.Mathlib.Nat.{le-refl, mod-lt, mod-eq-of-lt, div-eq-of-lt, mul-add-div-right, mul-add-mod-self-right, mul-le-mul-right, mul-comm, div-add-mod', add-comm, add-zero}
+use native.Mathlib.Nat.{le-refl, mod-lt, mod-eq-of-lt, div-eq-of-lt, mul-add-div-right, mul-add-mod-self-right, mul-le-mul, mul-le-mul-right, mul-comm, div-add-mod', add-comm, add-zero}
 use native.Mathlib.Omega.{arith}
 use lib.Dec.{eqb}
 use lib.ListN.{length, getD, replicate}
@@ -15,7 +15,7 @@ use Rattle.words.specs.Lists.{In}
 use Rattle.words.specs.Bits.{distance}
 use Rattle.words.specs.BitLaws.{distance-self, distance-blocks}
 use Rattle.code.specs.Covering.{Covers, Within}
-use Rattle.search.specs.Run.{Plan, Block, Code, blockOf, shortBlock, blocks, summedRadius, centreCount, centreAt}
+use Rattle.search.specs.Run.{Plan, Block, Code, blockOf, shortBlock, blocks, summedRadius, centreCount, product, centreAt}
 
 -- n: the number of variables in the blocks
 unfoldable pub summedSize : List Block → ℕ
@@ -146,3 +146,42 @@ blocks-covered code h p n =
     blocks-each Covered code p n
     (record { covers = h .covers _ _; within = h .within _ _ })
     (λ t. record { covers = h .covers _ _; within = h .within _ _ })
+
+-- ---- M without the codes
+
+centres-most : (most : ℕ → ℕ → ℕ) (bs : List Block) → ((b : Block) → In b bs → length (b .code) ≤ most (b .size) (b .radius)) →
+    centreCount bs ≤ product most bs
+unfolding centreCount product
+centres-most most [] each = le-refl 1
+centres-most most (b ∷ bs) each =
+    mul-le-mul (each b (List·Memᴰ·head refl)) (centres-most most bs (λ b′ m. each b′ (List·Memᴰ·tail m)))
+
+-- What is read of the blocks' lengths and radii alone is the same for all codes.
+blocks-same : (F : List Block → ℕ) (step : ℕ → ℕ → ℕ → ℕ) →
+    ((b : Block) (bs : List Block) → F (b ∷ bs) ≡ step (b .size) (b .radius) (F bs)) →
+    (c d : Code) (p : Plan) (n : ℕ) → F (blocks c p n) ≡ F (blocks d p n)
+unfolding blocks blockOf shortBlock
+blocks-same F step h c d p n = whole (n / p .size) (last (eqb (n % p .size) 0))
+  where
+    last : (z : Bool) →
+        F (cond z [] (shortBlock c (n % p .size) (p .radius) ∷ [])) ≡ F (cond z [] (shortBlock d (n % p .size) (p .radius) ∷ []))
+    last true = refl
+    last false = h _ _ ∙ sym (h _ _)
+
+    whole : (k : ℕ) {xs ys : List Block} → F xs ≡ F ys →
+        F (replicate k (blockOf c (p .size) (p .radius)) ++ xs) ≡ F (replicate k (blockOf d (p .size) (p .radius)) ++ ys)
+    whole zero e = e
+    whole (suc k) e = h _ _ ∙ ap (step _ _) (whole k e) ∙ sym (h _ _)
+
+pub radius-same : (c d : Code) (p : Plan) (n : ℕ) → summedRadius (blocks c p n) ≡ summedRadius (blocks d p n)
+unfolding summedRadius
+radius-same = blocks-same summedRadius (λ t s r. s + r) (λ b bs. refl)
+
+-- What each code has at most of words, the product over the blocks is of centres; it reads no code, so that any will do there.
+pub blocks-most : (code : Code) (most : ℕ → ℕ → ℕ) → ((t s : ℕ) → length (code t s) ≤ most t s) → (any : Code) (p : Plan) (n : ℕ) →
+    centreCount (blocks code p n) ≤ product most (blocks any p n)
+unfolding blockOf shortBlock product
+blocks-most code most h any p n =
+    rw (blocks-same (product most) (λ t s r. most t s * r) (λ b bs. refl) any code p n)
+    (centres-most most (blocks code p n)
+    (blocks-each (λ b. length (b .code) ≤ most (b .size) (b .radius)) code p n (h _ _) (λ t. h _ _)))

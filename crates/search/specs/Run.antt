@@ -77,7 +77,12 @@ ball q i = ballSearch (q .clauses) (q .rule) (summedRadius (q .blocks)) (record 
 unfoldable pub run : Search → Outcome
 run q = try (ball q) (span 0 (centreCount (q .blocks)))
 
--- ---- the bound on its calls
+-- ---- the bounds on its calls
+
+-- the product over the blocks of a number that each has by its length and its radius alone, as planners know them
+unfoldable pub product : (ℕ → ℕ → ℕ) → List Block → ℕ
+product f [] = 1
+product f (b ∷ bs) = f (b .size) (b .radius) * product f bs
 
 -- k: the length of the longest clause
 unfoldable pub longest : List Clause → ℕ
