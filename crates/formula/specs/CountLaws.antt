@@ -11,7 +11,7 @@ use borrow.Author.Tests.{ne-eqb, eqb-true, eqb-false, not-true}
 use Rattle.words.specs.Lists.{In, some, keep, count}
 use Rattle.words.specs.ListLaws.{and-left, and-right, refute, some-in, in-some}
 use Rattle.words.specs.Bits.{bit, toggle}
-use Rattle.words.specs.BitLaws.{digit, by-parity, same-test, bit-toggle-same, bit-toggle-other}
+use Rattle.words.specs.BitLaws.{digit, by-parity, same-test, bit-zero, bit-toggle-same, bit-toggle-other}
 use Rattle.words.specs.CountLaws.{count-cons, count-le, count-moves, count-adds, count-same, count-none, count-zero, some-digit}
 use Rattle.formula.specs.Formula.{Literal, Clause, WellFormedClause, met, isOpposite, bitOf, names, once, literalWord, literalOf}
 use Rattle.formula.specs.Counts.{signCount, holds, opposite, Steps}
@@ -267,3 +267,12 @@ none-count c f = count-same (is 0) (λ l. false) c (λ l i. none-is l (f .known 
 pub sign-small : {n : ℕ} (b : Bool) (c : Clause) → WellFormedClause n c → signCount b c < 16
 unfolding signCount
 sign-small b c f = omega (arith, count-le (λ l. Bool·beq (l .positive) b) c, f .short)
+
+-- under the assignment 0 the negative literals are met
+pub zero-met : (c : Clause) → signCount false c ≡ count (met 0) c
+unfolding signCount met
+zero-met c = count-same _ _ c (λ l i. sym (rw (bit-zero (bitOf l)) (go (l .positive))))
+  where
+    go : (p : Bool) → Bool·beq false p ≡ Bool·beq p false
+    go true = refl
+    go false = refl

@@ -11,6 +11,7 @@ pub mod ParseAccepted
 pub mod ParseRefused
 pub mod ParseReason
 pub mod SetLaws
+pub mod ModelLaws
 pub mod CountLaws
 pub mod SignLaws
 pub mod TableLaws

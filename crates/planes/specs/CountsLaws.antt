@@ -12,11 +12,12 @@ use lib.Count.{trailingZeros, trailing-le}
 use borrow.Author.Tests.{lt-ltb, le-ltb, le-leb, ltb-true, ltb-false}
 use Rattle.words.specs.Lists.{every}
 use Rattle.words.specs.ListLaws.{and-left}
-use Rattle.words.specs.Bits.{bit}
+use Rattle.words.specs.Bits.{bit, width}
 use Rattle.words.specs.BitLaws.{digit, bit-zero, trailing-below, trailing-at}
 use Rattle.formula.specs.Formula.{Clause}
-use Rattle.formula.specs.Counts.{holds, Steps}
-use Rattle.formula.specs.Machine.{clauseAt, held}
+use Rattle.formula.specs.Counts.{holds, opposite, Steps}
+use Rattle.formula.specs.CountLaws.{opposite-lt}
+use Rattle.formula.specs.Machine.{IsLiteral, clauseAt, held}
 use Rattle.formula.specs.HeldLaws.{held-every, held-fails}
 use Rattle.planes.specs.declared.Planes.{Planes}
 use Rattle.planes.specs.declared.Kind.{Kind}
@@ -24,7 +25,18 @@ use Rattle.planes.specs.declared.Kind.the-variants.{Zero, Few, Lone, Bot
 use Rattle.planes.specs.Machine.{lanes, rowWords, laneCount, rowCount, wordsOf, countAt, planesAt, Counts, Passing, First, passes, testOf, Told, lane, Occurs, Moved, ZerosAfter, Shifted}
 use Rattle.planes.specs.LaneLaws.{bit-and}
 
+-- ---- what is counted
+
+-- it may be said in another way
+pub counts-same : {k : ℕ} {cells : List ℕ} {q : ℕ} {planes : List ℕ} {f g : Clause → ℕ} → ((c : Clause) → f c ≡ g c) →
+    Counts k cells q f planes → Counts k cells q g planes
+counts-same e h = record { each = λ i l. h .each i l ∙ e _; rest = h .rest }
+
 -- ---- the lanes of a literal
+
+-- the rows of a literal and of its opposite
+pub literal-rows : (literal : ℕ) → IsLiteral literal → (literal < rowCount) × (opposite literal < rowCount)
+literal-rows literal h = (h .1, opposite-lt width literal (h .1))
 
 -- of a clause, and past the last one
 module _ {k : ℕ} {cells occ : List ℕ} (o : Occurs k cells occ) (w i : ℕ) (l : w < rowCount) where

@@ -2,29 +2,24 @@
 use mathlib.Core.Path.{_≡_, refl, sym, ap, _∙_}
 use mathlib.Core.Bool.{Bool, true, false, not, Bool·beq, and-true, and-false}
 use mathlib.Core.List.{List}
-use Prim.Native.Nat.{ℕ, _+_, _/_, _≤_, _<_}
+use Prim.Native.Nat.{ℕ, _+_, _/_, _≤_}
 use native.Mathlib.Omega.{arith}
 use lib.ListN.{length}
 use Rattle.words.specs.Lists.{every, count}
-use Rattle.words.specs.Bits.{toggle, width}
+use Rattle.words.specs.Bits.{toggle}
 use Rattle.words.specs.BitLaws.{digit, bit-zero, bit-toggle-same}
 use Rattle.words.specs.CountLaws.{count-same, digit-not}
 use Rattle.formula.specs.Formula.{Literal, Clause, WellFormedClause, bitOf, met, literalOf}
 use Rattle.formula.specs.Counts.{signCount, opposite, Steps}
-use Rattle.formula.specs.CountLaws.{names?, is, opposite-lt, both-count, same-bit, same-is, other-is, other-bit, other-met, literal-toggles, count-steps, met-steps, none-is, none-count}
+use Rattle.formula.specs.CountLaws.{names?, is, both-count, same-bit, same-is, other-is, other-bit, other-met, literal-toggles, count-steps, met-steps, none-is, none-count, zero-met}
 use Rattle.formula.specs.Machine.{IsLiteral, held}
-use Rattle.planes.specs.Machine.{rowCount, firstCounter, secondCounter, planeCells, Counts, Starts, Shifted, AboveZero}
-use Rattle.planes.specs.CountsLaws.{shifted-counts}
+use Rattle.planes.specs.Machine.{firstCounter, secondCounter, planeCells, Starts, Shifted, AboveZero}
+use Rattle.planes.specs.CountsLaws.{counts-same, literal-rows, shifted-counts}
 use Rattle.search.specs.Ball.{State, isFlipped, isOpen, reading, flip}
 use Rattle.search.specs.ReadingLaws.{open-is, true-met}
 use Rattle.search.specs.Machine.{centred, Tryable, Begins, Flips, Toggles, Settles}
 
 -- ---- what is counted
-
--- it may be said in another way
-counts-same : {k : ℕ} {cells : List ℕ} {q : ℕ} {planes : List ℕ} {f g : Clause → ℕ} → ((c : Clause) → f c ≡ g c) →
-    Counts k cells q f planes → Counts k cells q g planes
-counts-same e h = record { each = λ i l. h .each i l ∙ e _; rest = h .rest }
 
 -- at a centre the open literals are those that are not met
 open-centred : (m : ℕ) (l : Literal) → isOpen (centred m) l ≡ not (met m l)
@@ -33,15 +28,7 @@ open-centred m l = rw (bit-zero (bitOf l)) (and-true (not (met m l)))
 
 -- ---- the start
 
--- under the assignment 0 the negative literals are met, and the positive ones open
-start-met : (c : Clause) → signCount false c ≡ reading (centred 0) c .met
-unfolding signCount reading met
-start-met c = count-same _ _ c (λ l i. sym (rw (bit-zero (bitOf l)) (go (l .positive))))
-  where
-    go : (p : Bool) → Bool·beq false p ≡ Bool·beq p false
-    go true = refl
-    go false = refl
-
+-- under the assignment 0 the positive literals are open
 start-open : (c : Clause) → signCount true c ≡ reading (centred 0) c .«open»
 unfolding signCount reading met
 start-open c = count-same _ _ c (λ l i. sym (open-centred 0 l ∙ rw (bit-zero (bitOf l)) (go (l .positive))))
@@ -52,21 +39,18 @@ start-open c = count-same _ _ c (λ l i. sym (open-centred 0 l ∙ rw (bit-zero 
 
 pub begins : (n k : ℕ) (occ planes : List ℕ) → length planes ≡ planeCells → Starts n k occ firstCounter false planes →
     Starts n k occ secondCounter true planes → Begins n k occ planes
+unfolding reading
 begins n k occ planes size negative positive =
     record {
       size = size;
       shows = λ cells t o.
           record {
-            met = counts-same start-met (negative .counts cells t o);
+            met = counts-same zero-met (negative .counts cells t o);
             «open» = counts-same start-open (positive .counts cells t o);
           };
     }
 
 -- ---- a flip
-
--- the rows of a literal and of its opposite
-pub flip-rows : (literal : ℕ) → IsLiteral literal → (literal < rowCount) × (opposite literal < rowCount)
-flip-rows literal h = (h .1, opposite-lt width literal (h .1))
 
 module _ (literal : ℕ) (known : IsLiteral literal) where
   abbrev it : Literal
@@ -126,7 +110,7 @@ module _ (k literal : ℕ) (occ from to : List ℕ) (known : IsLiteral literal) 
         size = size;
         shows = λ cells s r t h.
             record {
-              met = shifted-counts (r .table .room) (flip-rows literal known) (r .occurs) (h .met)
+              met = shifted-counts (r .table .room) (literal-rows literal known) (r .occurs) (h .met)
                   (λ i l. met-steps literal (known .0) _ (r .table .each i l) (s .assignment) (t .unmet)) to first;
               «open» = shifted-counts (r .table .room) (omega arith, known .1) (r .occurs) (h .«open»)
                   (λ i l. open-steps literal known _ (r .table .each i l) s t) to second;
@@ -140,7 +124,7 @@ module _ (k literal : ℕ) (occ from to : List ℕ) (known : IsLiteral literal) 
       record {
         size = size;
         shows = λ cells m r u h.
-            let rows = flip-rows literal known in
+            let rows = literal-rows literal known in
             record {
               met = shifted-counts (r .table .room) rows (r .occurs) (h .met)
                   (λ i l. met-steps literal (known .0) _ (r .table .each i l) m u) to first;

@@ -2,20 +2,21 @@
 -- how many calls it takes. Lemma 1 of source 000 is `hits`.
 use mathlib.Core.Path.{_≡_, refl, sym, ap, _∙_, subst}
 use mathlib.Core.Logic.{_⊎_, inl, inr, ⊎-elim}
-use mathlib.Core.Bool.{Bool, true, false, not, _&&_, _||_, Bool·beq, false≢true, true≢false}
+use mathlib.Core.Bool.{Bool, true, false, not, _||_, Bool·beq, false≢true, true≢false}
 use mathlib.Core.List.{List, [], _∷_, List·Memᴰ·head, List·Memᴰ·tail, List·Memᴰ·not-nil, List·Memᴰ·cases-cons}
 use Prim.Native.Nat.{ℕ, suc, _^_, _≤_, _<_}
-use native.Mathlib.Nat.{le-trans}
+use native.Mathlib.Nat.{le-of-eq, le-trans}
 use native.Mathlib.Omega.{arith}
 use lib.Dec.{eqb, leb}
 use lib.ListN.{length}
 use borrow.Author.Tests.{eqb-true, eqb-false, leb-true, leb-false, not-true}
 use Rattle.words.specs.Lists.{In, some, every}
-use Rattle.words.specs.ListLaws.{every-in, some-in, keep-in, in-keep, length-keep, first-has, first-none, only-passes, and-left, and-right, or-cases, refute}
+use Rattle.words.specs.ListLaws.{every-in, some-in, some-fails, keep-in, in-keep, length-keep, first-has, first-none, only-passes, and-left, and-right, or-cases, refute}
 use Rattle.words.specs.Bits.{bit, toggle, distance}
 use Rattle.words.specs.BitLaws.{not-same, bit-toggle-same, bit-toggle-other, toggle-lt, distance-toggle, distance-zero}
 use Rattle.formula.specs.Formula.{Literal, Clause, bitOf, met, isOpposite, someMet, allTrue}
 use Rattle.formula.specs.CountLaws.{opposite-met}
+use Rattle.formula.specs.ModelLaws.{Known}
 use Rattle.tree.specs.Explore.{found, calls, powers}
 use Rattle.search.specs.Ball.{State, isTrue, isDead, isFlipped, restricted, meetsS, isLone, hasLoneOpposite, meetsL, flip, Rule, isTried, tried, branch, select, skip, rule, ballTree, ballSearch}
 use Rattle.search.specs.Run.{longest}
@@ -112,10 +113,6 @@ module _ (n k : ℕ) (cs : List Clause) (rule : Rule) (lawful : Lawful n k cs ru
 
 -- ---- rules that select a clause and skip some of its literals
 
--- every literal is over the variables 1 to n
-unfoldable pub Known : ℕ → List Clause → Type 0
-Known n cs = (c : Clause) → In c cs → (l : Literal) → In l c → (1 ≤ l .variable) × (l .variable ≤ n)
-
 -- What a selection and its skipping owe: the clause is a false one, and no model that agrees with the flipped variables meets a
 -- literal skipped.
 pub record Fair (cs : List Clause) (select : State → Clause) (skip : State → Literal → Bool) (s : State) : Type 0 where
@@ -153,17 +150,6 @@ module _ (skip : State → Literal → Bool) (s : State) (l : Literal) where
   unfolding isTried
   tries e e′ = rw (e, e′)
 
--- not every element passes: some element fails
-fails : {A : Type 0} (p : A → Bool) (xs : List A) → every p xs ≡ false → some (λ x. not (p x)) xs ≡ true
-unfolding every some
-fails p [] e = absurd (true≢false e)
-fails p (x ∷ xs) e = go (λ e′. fails p xs e′) (p x) e
-  where
-    go : (every p xs ≡ false → some (λ y. not (p y)) xs ≡ true) → (b : Bool) → (b && every p xs) ≡ false →
-        (not b || some (λ y. not (p y)) xs) ≡ true
-    go below true e′ = below e′
-    go below false e′ = refl
-
 -- a flipped literal that is not met is met by no assignment that agrees with the flipped variables
 agrees-unmet : (s : State) (w : ℕ) → Agrees s w → (l : Literal) → isFlipped s l ≡ true → met (s .assignment) l ≡ false →
     met w l ≡ false
@@ -188,7 +174,7 @@ lone-unmet cs s l e w model a =
     let (x, j, m) = some-in (met w) c (every-in (someMet w) cs model c i) in
     let fresh : isFlipped s x ≡ false = refute (isFlipped s x) (λ f.
     true≢false (sym m ∙ agrees-unmet s w a x f (lone-flipped s l c lone x j f))) in
-    let opp = only-passes (isOpposite l) (restricted s c) (lone-one s l c lone) (lone-left s l c lone) x (in-left s c x j fresh) in
+    let opp = only-passes (isOpposite l) (restricted s c) (le-of-eq (lone-one s l c lone)) (lone-left s l c lone) x (in-left s c x j fresh) in
     not-true (met w l) (sym (opposite-met l x opp w) ∙ m)
 
 -- ---- the engine's rule
@@ -255,7 +241,7 @@ module _ (n : ℕ) (cs : List Clause) (known : Known n cs) where
       selected : (b : Bool) → some (preferred cs s) cs ≡ b → In (select cs s) cs × (isTrue s (select cs s) ≡ false)
       selected true e = let (i, p) = first-has (preferred cs s) cs _ e in (i, preferred-false cs s _ p)
       selected false e =
-          let (i, p) = first-has (λ c. not (isTrue s c)) cs [] (fails (isTrue s) cs g) in
+          let (i, p) = first-has (λ c. not (isTrue s c)) cs [] (some-fails (isTrue s) cs g) in
           rw (first-none (preferred cs s) cs _ e) (i, not-true _ p)
 
   -- Where a clause is dead no model agrees with the flipped variables, and no literal is owed.

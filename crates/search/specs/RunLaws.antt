@@ -8,11 +8,12 @@ use Rattle.words.specs.Lists.{In, span}
 use Rattle.words.specs.ListLaws.{in-span, length-span}
 use Rattle.words.specs.BitLaws.{bit-zero}
 use Rattle.formula.specs.Formula.{Formula, WellFormed, allTrue, Satisfiable}
+use Rattle.formula.specs.ModelLaws.{wellFormed-known}
 use Rattle.tree.specs.Explore.{found, calls, powers}
 use Rattle.tree.specs.TreeLaws.{Finds, try-gives, try-hit, try-calls}
 use Rattle.tree.specs.Decides.{Decides}
 use Rattle.search.specs.Run.{Plan, Block, Code, Search, blocks, searchOf, summedRadius, centreCount, centreAt, ball, run, longest}
-use Rattle.search.specs.RuleLaws.{Lawful, Known, Agrees, ball-gives, ball-hit, ball-calls, rule-lawful}
+use Rattle.search.specs.RuleLaws.{Lawful, Agrees, ball-gives, ball-hit, ball-calls, rule-lawful}
 use Rattle.search.specs.CentreLaws.{Covered, Covering, summedSize, centre-lt, centre-near, blocks-size, blocks-covered}
 
 -- What is known of a search: its rule is lawful, and its blocks hold the n variables and are covered.
@@ -52,11 +53,6 @@ module _ (n : ℕ) (q : Search) (fit : Fit n q) where
       (λ i j. ball-calls n (longest (q .clauses)) (q .clauses) (q .rule) (fit .lawful) _ _))
 
 -- ---- the same for a formula, a plan and any covering code
-
--- a formula that a sheet can hold is over the variables 1 to n
-wellFormed-known : (f : Formula) → WellFormed f → Known (f .n) (f .clauses)
-unfolding Known
-wellFormed-known f h c i l j = h .each c i .known l j
 
 module _ (code : Code) (covering : Covering code) (p : Plan) (f : Formula) (formed : WellFormed f) where
   fit : Fit (f .n) (searchOf code p f)

@@ -1,7 +1,7 @@
 -- The laws of tests over lists: what each test says of the members, and what it comes to element by element.
 use mathlib.Core.Path.{_≡_, refl, sym, ap, _∙_}
 use mathlib.Core.Logic.{_⊎_, inl, inr, ⊎-elim}
-use mathlib.Core.Bool.{Bool, true, false, cond, _&&_, _||_, or-false, or-assoc, Bool·beq, false≢true, true≢false}
+use mathlib.Core.Bool.{Bool, true, false, cond, not, _&&_, _||_, or-false, or-assoc, Bool·beq, false≢true, true≢false}
 use mathlib.Core.List.{List, [], _∷_, _++_, List·Memᴰ·head, List·Memᴰ·tail, List·Memᴰ·not-nil, List·Memᴰ·cases-cons}
 use Prim.Native.Nat.{ℕ, zero, suc, _+_, _≤_, _<_, zero-le, suc-le-suc}
 use native.Mathlib.Nat.{le-step, eq-or-lt-of-le, suc-add, add-zero, add-suc}
@@ -92,6 +92,17 @@ module _ {A : Type 0} where
       (λ h. or-right (p y) (some p ys) (in-some p ys x h q))
       (List·Memᴰ·cases-cons i)
 
+  -- where not every element passes, some element fails
+  pub some-fails : (p : A → Bool) (xs : List A) → every p xs ≡ false → some (λ x. not (p x)) xs ≡ true
+  unfolding every some
+  some-fails p [] e = absurd (true≢false e)
+  some-fails p (x ∷ xs) e = go (λ e′. some-fails p xs e′) (p x) e
+    where
+      go : (every p xs ≡ false → some (λ y. not (p y)) xs ≡ true) → (b : Bool) → (b && every p xs) ≡ false →
+          (not b || some (λ y. not (p y)) xs) ≡ true
+      go below true e′ = below e′
+      go below false e′ = refl
+
   pub some-append : (p : A → Bool) (xs ys : List A) → some p (xs ++ ys) ≡ (some p xs || some p ys)
   unfolding some
   some-append p [] ys = refl
@@ -158,8 +169,8 @@ module _ {A : Type 0} where
       go below true e′ = absurd (true≢false e′)
       go below false e′ = below e′
 
-  -- where a list has one element and some element passes, each one does
-  pub only-passes : (p : A → Bool) (xs : List A) → length xs ≡ 1 → some p xs ≡ true → (x : A) → In x xs → p x ≡ true
+  -- where a list has at most one element and some element passes, each one does
+  pub only-passes : (p : A → Bool) (xs : List A) → length xs ≤ 1 → some p xs ≡ true → (x : A) → In x xs → p x ≡ true
   unfolding some
   only-passes p [] h e x i = absurd (List·Memᴰ·not-nil i)
   only-passes p (y ∷ []) h e x i =

@@ -22,7 +22,7 @@ use Rattle.search.specs.Ball.{State, flip}
 use Rattle.tree.specs.Budget.{Answer}
 use Rattle.tree.specs.BudgetLaws.{settle}
 use Rattle.tree.specs.Machine.{answerIn}
-use Rattle.search.specs.CountLaws.{flip-rows}
+use Rattle.planes.specs.CountsLaws.{literal-rows}
 use Rattle.search.specs.ForcedLaws.{forces-same, standing-flip}
 use Rattle.search.specs.ChoiceLaws.{zero-false}
 use Rattle.search.specs.Machine.{stateIn, Standing, FirstFalse, Selected, Trying, Turn, callFrom, literalsFrom}
@@ -356,7 +356,7 @@ module _ (t : ℕ) where
   attempt-force-requires : attempt-lts.Need-force-requires (attempt-claims t) (attempt-at t) attempt.Post
   attempt-force-requires c κs =
       let a = c .before .before .before .before .pre .1 .0 in
-      (a .ready .table .room, flip-rows _ (a .known) .1)
+      (a .ready .table .room, literal-rows _ (a .known) .1)
 
   attempt-sub-call : attempt-lts.Need-sub-call (attempt-claims t) (attempt-at t) attempt.Post
   attempt-sub-call c = c .before .before .before .before .before .before .pre .1 .0 .flips

@@ -1,7 +1,8 @@
 -- `flip` meets its contract: one more literal met where the literal stands, one less where its opposite stands, and one less open
 -- where the literal stands.
 use native.Mathlib.Omega.{arith}
-use Rattle.search.specs.CountLaws.{flip-rows, flips}
+use Rattle.planes.specs.CountsLaws.{literal-rows}
+use Rattle.search.specs.CountLaws.{flips}
 use Rattle.search.proofs.counts.flip.Statement.{statement}
 use Rattle.search.proofs.counts.flip.Tie as tie
 
@@ -9,7 +10,7 @@ shift-requires : tie.Need-shift-requires
 shift-requires c κs =
     let s = c .before in
     let known = s .pre .0 .1 in
-    let rows = flip-rows _ known in
+    let rows = literal-rows _ known in
     (s .pre .0 .0, (rows, ((omega (arith, rows .1), rows .0), s .pre .1)))
 
 returns : tie.Need-returns
