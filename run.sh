@@ -1,7 +1,9 @@
 #!/bin/sh
 # Builds the program `clearing` from its proofs and decides a sheet: the sample, or FILE (readable text or DIMACS CNF).
 # run.sh [[BLOCK_LENGTH RADIUS BUDGET] FILE]
-# FILE alone is decided by the plan with the least bound (tools/sheet plans) and the largest budget.
+# FILE alone is decided by the plan with the least bound (tools/sheet plans) and the largest budget; for a Horn sheet, where no clause
+# has two positive literals, the plan makes no difference.
+# It prints the program's line, as `batch 70000 ball clear calls 2 marks 1 0 0 0`, and then what it means.
 set -eu
 here=$(cd "$(dirname "$0")" && pwd)
 program=$here/target/bin/clearing

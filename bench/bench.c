@@ -27,6 +27,12 @@ static void put(uint32_t word)
     for (int i = 0; i < 4; i++) bytes[length++] = word >> 8 * i;
 }
 
+static void begin(uint32_t n)
+{
+    length = 0;
+    put(3u << 30), put(3u << 30 | 1), put(2u << 30 | n);
+}
+
 /* a variable that the clause has not used yet */
 static uint32_t fresh(uint32_t n, uint8_t used[128])
 {
@@ -39,8 +45,7 @@ static uint32_t fresh(uint32_t n, uint8_t used[128])
 /* count clauses of c literals over n variables */
 static void make(uint32_t n, uint32_t count, uint32_t c)
 {
-    length = 0;
-    put(3u << 30), put(3u << 30 | 1), put(2u << 30 | n);
+    begin(n);
     for (uint32_t i = 0; i < count; i++) {
         uint8_t used[128] = { 0 };
         put(1u << 30 | c);
@@ -51,8 +56,7 @@ static void make(uint32_t n, uint32_t count, uint32_t c)
 /* all 256 clauses over eight variables, step apart from 1 on, which have no model, among random clauses of 8 literals */
 static void make_eights(uint32_t n, uint32_t step)
 {
-    length = 0;
-    put(3u << 30), put(3u << 30 | 1), put(2u << 30 | n);
+    begin(n);
     for (uint32_t i = 0; i < 1024; i++) {
         uint8_t used[128] = { 0 };
         put(1u << 30 | 8);
@@ -63,10 +67,64 @@ static void make_eights(uint32_t n, uint32_t step)
     }
 }
 
+/* Three literals that are true in every round of the chain 1 to n: the positive one is paid before the others. */
+static void put_kept(uint32_t n)
+{
+    uint8_t used[128] = { 0 };
+    uint32_t v[3], least = n;
+    for (int j = 0; j < 3; j++) {
+        v[j] = fresh(n, used);
+        if (v[j] < least) least = v[j];
+    }
+    put(1u << 30 | 3);
+    for (int j = 0; j < 3; j++) put(2 * v[j] + (v[j] != least));
+}
+
+/* The chain (1)(-1 2)(-2 3) .. of n clauses, which takes n + 1 rounds, and clauses that are true throughout: behind it, or before it, where every
+   round passes over them, and the chain from its end. */
+static void make_chain(uint32_t n, uint32_t count, int behind)
+{
+    begin(n);
+    if (!behind) for (uint32_t i = n; i < count; i++) put_kept(n);
+    for (uint32_t i = 1; i <= n; i++) {
+        uint32_t v = behind ? i : n + 1 - i;
+        put(1u << 30 | (v > 1 ? 2 : 1));
+        if (v > 1) put(2 * (v - 1) + 1);
+        put(2 * v);
+    }
+    if (behind) for (uint32_t i = n; i < count; i++) put_kept(n);
+}
+
+/* Horn clauses of c literals over n variables, with facts in between: every period-th clause is one, each of another variable. Every eighth of
+   the others has negative literals only, the last variable's among them, which is never paid. With no_model the last clause has facts' opposites. */
+static void make_horn(uint32_t n, uint32_t count, uint32_t c, uint32_t period, uint32_t no_model)
+{
+    uint8_t fact[128] = { 0 };
+    begin(n);
+    fact[n - 1] = 1;
+    for (uint32_t i = 0; i < count - no_model; i++) {
+        uint8_t used[128] = { 0 };
+        if (i % period == 0) {
+            put(1u << 30 | 1), put(2 * fresh(n, fact));
+            continue;
+        }
+        uint32_t at = below(c), negative = below(8) == 0;
+        put(1u << 30 | c);
+        used[n - 1] = 1;
+        for (uint32_t j = 0; j < c; j++) {
+            if (j == at && negative) put(2 * n + 1);
+            else put(2 * fresh(n, used) + (j != at));
+        }
+    }
+    if (!no_model) return;
+    put(1u << 30 | c);
+    for (uint32_t v = 1; c > 0; v++) if (fact[v - 1] && v != n) put(2 * v + 1), c--;
+}
+
 static const char *verdicts[] = { "refused", "clear", "none", "spent" };
 
-/* Who searches: the library, plain C as the steps are worded, or plain C with vectors. */
-enum { LIBRARY, WORDED, VECTORS };
+/* Who decides: the library, plain C as the papers are worded, or the fastest plain C found, by vectors in balls and by watches in rounds. */
+enum { LIBRARY, WORDED, FASTEST };
 
 /* The seconds of one run. */
 static double timed(int who, const struct plain *plain, uint32_t b, uint32_t s, uint32_t budget, struct reply *reply)
@@ -77,16 +135,17 @@ static double timed(int who, const struct plain *plain, uint32_t b, uint32_t s, 
         *reply = run(b, s, budget, bytes, length);
         return seconds() - at;
     }
-    int verdict = plain->run(b, s, budget, bytes, length, who == VECTORS, &answer);
+    int verdict = plain->run(b, s, budget, bytes, length, who == FASTEST, &answer);
     double took = seconds() - at;
-    *reply = (struct reply){ .verdict = verdict, .calls = answer.calls };
+    *reply = (struct reply){ .verdict = verdict, .batch = answer.batch, .road = answer.horn ? ENGINE_HORN : ENGINE_BALLS, .calls = answer.calls };
     memcpy(reply->marks, answer.marks, sizeof reply->marks);
     return took;
 }
 
 static int agree(const struct reply *a, const struct reply *b)
 {
-    return a->verdict == b->verdict && a->calls == b->calls && memcmp(a->marks, b->marks, sizeof a->marks) == 0;
+    return a->verdict == b->verdict && a->batch == b->batch && a->road == b->road && a->calls == b->calls &&
+           memcmp(a->marks, b->marks, sizeof a->marks) == 0;
 }
 
 /* Plain C as the steps are worded takes up to 17 us a call, so that it runs once, and within 200,000 calls unless the radius is 0. Its seconds
@@ -108,23 +167,62 @@ static int search(const struct plain *plain, const char *what, uint32_t b, uint3
     double best[] = { 1e9, 1e9, 1e9 }, empty[] = { 1e9, 1e9, 1e9 }, worded;
     struct reply replies[3];
     for (int i = 0; i < 6; i++) {
-        int who = i % 2 ? VECTORS : LIBRARY;
+        int who = i % 2 ? FASTEST : LIBRARY;
         double nothing = timed(who, plain, b, s, 0, &replies[who]), took = timed(who, plain, b, s, budget, &replies[who]);
         if (nothing < empty[who]) empty[who] = nothing;
         if (took < best[who]) best[who] = took;
     }
-    int same = agree(&replies[LIBRARY], &replies[VECTORS]) & as_worded(plain, b, s, budget, &worded);
+    int same = agree(&replies[LIBRARY], &replies[FASTEST]) & as_worded(plain, b, s, budget, &worded);
+    same &= replies[LIBRARY].road == ENGINE_BALLS;
     uint32_t calls = replies[LIBRARY].calls;
-    double ours = best[LIBRARY] - empty[LIBRARY], theirs = best[VECTORS] - empty[VECTORS];
+    double ours = best[LIBRARY] - empty[LIBRARY], theirs = best[FASTEST] - empty[FASTEST];
     printf("%-44s %-6s %10u calls  %7.3f s  %6.1f ns a call  plain %7.1f ns  ratio %6.3f  vectors %7.3f s  %6.1f ns  ratio %.2f%s\n", what,
            verdicts[replies[LIBRARY].verdict], calls, ours, ours / calls * 1e9, worded * 1e9, ours / calls / worded, theirs,
            theirs / calls * 1e9, ours / theirs, same ? "" : "  DIFFERENT ANSWERS");
     return same;
 }
 
+/* Microseconds of a run, the mean of 200. */
+static double mean(int who, const struct plain *plain, uint32_t budget, struct reply *reply)
+{
+    struct plain_answer answer;
+    double at = seconds();
+    for (int i = 0; i < 200; i++) {
+        if (who == LIBRARY) *reply = run(11, 3, budget, bytes, length);
+        else plain->run(11, 3, budget, bytes, length, who == FASTEST, &answer);
+    }
+    return (seconds() - at) / 200 * 1e6;
+}
+
+/* A Horn sheet by all three in turn, the whole run and one with budget 0, which reads the sheet and gets ready; the least of 15 means. Their
+   answers must be the same with all rounds, with those needed, with one less and with none, under other plans. */
+static int horn(const struct plain *plain, const char *what)
+{
+    double whole[] = { 1e9, 1e9, 1e9 }, ready[] = { 1e9, 1e9, 1e9 };
+    struct reply ours, theirs;
+    for (int i = 0; i < 45; i++) {
+        double nothing = mean(i % 3, plain, 0, &ours), took = mean(i % 3, plain, 4294967295u, &ours);
+        if (nothing < ready[i % 3]) ready[i % 3] = nothing;
+        if (took < whole[i % 3]) whole[i % 3] = took;
+    }
+    timed(LIBRARY, plain, 11, 3, 4294967295u, &ours);
+    uint32_t needed = ours.calls, budgets[] = { 0, needed - 1, needed, 4294967295u };
+    const char *verdict = verdicts[ours.verdict];
+    int same = ours.road == ENGINE_HORN;
+    for (int i = 0; i < 8; i++) {
+        timed(LIBRARY, plain, 1 + i, i / 2, budgets[i / 2], &ours);
+        timed(i % 2 ? FASTEST : WORDED, plain, 1 + i, i / 2, budgets[i / 2], &theirs);
+        same &= agree(&ours, &theirs);
+    }
+    printf("%-44s %-6s %4u rounds  %7.2f us (ready %6.2f)  plain %7.2f us (%6.2f)  ratio %5.2f  watches %7.2f us (%6.2f)  ratio %5.2f%s\n", what,
+           verdict, needed, whole[LIBRARY], ready[LIBRARY], whole[WORDED], ready[WORDED], whole[LIBRARY] / whole[WORDED], whole[FASTEST],
+           ready[FASTEST], whole[LIBRARY] / whole[FASTEST], same ? "" : "  DIFFERENT ANSWERS");
+    return same;
+}
+
 static int reading(const struct plain *plain, const char *what)
 {
-    int rounds = 2000, ok = 1;
+    int rounds = 2000, ok = run(1, 0, 0, bytes, length).road == ENGINE_BALLS;
     double at = seconds();
     for (int i = 0; i < rounds; i++) ok &= run(1, 0, 0, bytes, length).verdict == ENGINE_SPENT;
     double mid = seconds();
@@ -283,6 +381,36 @@ static int rows_128(void)
     return ok;
 }
 
+/* Horn sheets. */
+static int rows_horn(void)
+{
+    const struct plain *narrow = &plain32_operations, *wide = &plain128_operations;
+    uint64_t kept = state;
+    state = 88172645463325252ull;
+    begin(0);
+    int ok = horn(narrow, "no variable, no clause");
+    make_chain(8, 12, 1);
+    ok &= horn(narrow, "n 8, 12 clauses, a chain");
+    make_horn(32, 160, 3, 16, 0);
+    ok &= horn(narrow, "n 32, 160 clauses of 3");
+    make_horn(32, 160, 3, 16, 1);
+    ok &= horn(narrow, "n 32, 160 clauses of 3, no model");
+    make_chain(128, 1024, 1);
+    ok &= horn(wide, "n 128, 1,024 clauses, a chain first");
+    make_chain(128, 1024, 0);
+    ok &= horn(wide, "n 128, 1,024 clauses, a chain last");
+    make_horn(128, 1024, 3, 64, 0);
+    ok &= horn(wide, "n 128, 1,024 clauses of 3");
+    make_horn(128, 1024, 3, 64, 1);
+    ok &= horn(wide, "n 128, 1,024 clauses of 3, no model");
+    make_horn(128, 1024, 8, 12, 0);
+    ok &= horn(wide, "n 128, 1,024 clauses of 8");
+    make_horn(128, 1024, 8, 12, 1);
+    ok &= horn(wide, "n 128, 1,024 clauses of 8, no model");
+    state = kept;
+    return ok;
+}
+
 int main(void)
 {
     int ok = codes();
@@ -290,5 +418,6 @@ int main(void)
     ok &= rows_32();
     ok &= rows_64();
     ok &= rows_128();
+    ok &= rows_horn();
     return !ok;
 }

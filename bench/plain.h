@@ -1,7 +1,7 @@
-/* A plain C implementation of paper 01 and of papers 2 and 4 to 7 of 02, as one would write it without proofs. It is the baseline of bench/run
-   and shares no code with the crates. The search has two forms: as the steps are worded, with masks per clause, in plain_masks.h; and with a
-   byte of counts per clause, 16 at a time, in plain_counts.h (vectors). What depends on the masks' width is taken twice: for 32 variables, as
-   before paper 5, and for 128. */
+/* A plain C implementation of paper 01 and of papers 2, 4 to 7 and 9 of 02, as one would write it without proofs. It is the baseline of bench/run
+   and shares no code with the crates. The search in balls has two forms: as the steps are worded, with masks per clause, in plain_masks.h; and
+   with a byte of counts per clause, 16 at a time, in plain_counts.h (vectors). So have the rounds of a Horn sheet, in plain_horn.h. What depends
+   on the masks' width is taken twice: for 32 variables, as before paper 5, and for 128. */
 #include <emmintrin.h>
 #include <stdint.h>
 #include <string.h>
@@ -9,6 +9,8 @@
 #define PLAIN_WORDS 4
 
 struct plain_answer {
+    uint32_t batch;
+    int horn;
     uint64_t calls;
     uint32_t marks[PLAIN_WORDS];
 };
@@ -21,7 +23,7 @@ struct plain_tally {
 /* The operations with masks of one width. */
 struct plain {
     int (*check)(const uint8_t *bytes, size_t length);
-    int (*run)(uint32_t b, uint32_t s, uint32_t budget, const uint8_t *bytes, size_t length, int vectors, struct plain_answer *answer);
+    int (*run)(uint32_t b, uint32_t s, uint32_t budget, const uint8_t *bytes, size_t length, int fast, struct plain_answer *answer);
     int (*toggle)(const uint8_t *bytes, size_t length, uint32_t v, struct plain_tally *tally);
     int (*recount)(const uint8_t *bytes, size_t length, struct plain_tally *tally);
 };

@@ -123,6 +123,7 @@ static int PLAIN(call)(struct PLAIN(search) *search, MASK marks, MASK flipped, u
 }
 
 #include "plain_counts.h"
+#include "plain_horn.h"
 
 /* Searches the balls in turn: 1 clear, 2 none, 3 spent. Their number may not fit any word, and is not made. */
 static int PLAIN(balls)(uint32_t b, uint32_t s, struct PLAIN(search) *search)
@@ -151,15 +152,26 @@ static struct PLAIN(sheet) PLAIN(taken);
 static int PLAIN(check)(const uint8_t *bytes, size_t length) { return PLAIN(read)(bytes, length, &PLAIN(taken)); }
 
 /* 1 clear, 2 none, 3 spent; the number of a refusal negated. */
-static int PLAIN(run)(uint32_t b, uint32_t s, uint32_t budget, const uint8_t *bytes, size_t length, int vectors, struct plain_answer *answer)
+static int PLAIN(run)(uint32_t b, uint32_t s, uint32_t budget, const uint8_t *bytes, size_t length, int fast, struct plain_answer *answer)
 {
-    struct PLAIN(search) search = { .sheet = &PLAIN(taken), .budget = budget, .vectors = vectors };
+    struct PLAIN(search) search;
+    int verdict;
     memset(answer, 0, sizeof *answer);
     if (b < 1 || b > 12 || s > b) return -8;
     int refused = PLAIN(read)(bytes, length, &PLAIN(taken));
     if (refused) return -refused;
-    if (vectors) PLAIN(begin)(&PLAIN(taken), &search);
-    int verdict = PLAIN(balls)(b, s, &search);
+    search.sheet = &PLAIN(taken);
+    search.budget = budget;
+    search.vectors = fast;
+    search.calls = search.found = search.centre = 0;
+    answer->batch = PLAIN(taken).batch;
+    answer->horn = PLAIN(is_horn)(&PLAIN(taken));
+    if (answer->horn) {
+        verdict = fast ? PLAIN(rounds_watched)(&search) : PLAIN(rounds)(&search);
+    } else {
+        if (fast) PLAIN(begin)(&PLAIN(taken), &search);
+        verdict = PLAIN(balls)(b, s, &search);
+    }
     answer->calls = search.calls;
     for (int k = 0; k < BITS / 32; k++) answer->marks[k] = search.found >> 32 * k;
     return verdict;

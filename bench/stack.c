@@ -1,7 +1,7 @@
 /* Measures the stack that run, alike, clause_counts, tally_toggle and covering_code take: each runs on a painted stack, and the paint left is
    counted. The sheet makes the search as deep as it can be, n flips: in every block each variable is within the radius. Each flip is of the
    last literal of its clause, after up to seven whose variables are flipped already, so that a stack that grows with a clause's literals
-   shows too. n 128 is the limit; n 32 was it before paper 5. */
+   shows too. Without its last clause the sheet is Horn and takes n + 1 rounds. n 128 is the limit; n 32 was it before paper 5. */
 #include <pthread.h>
 #include <stdio.h>
 #include <stdlib.h>
@@ -21,7 +21,9 @@ static void put(uint32_t word)
     for (int i = 0; i < 4; i++) sheet[length++] = word >> 8 * i;
 }
 
-static void make(uint32_t n)
+/* The last clause, (-n 1 2), has two positive literals, so that balls are searched. It is true throughout: -n is met until 1 is flipped, which
+   meets it for good. */
+static void make(uint32_t n, int horn)
 {
     length = 0;
     put(3u << 30), put(3u << 30), put(2u << 30 | n);
@@ -31,6 +33,7 @@ static void make(uint32_t n)
         for (uint32_t u = 1; u <= before; u++) put(2 * u + 1);
         put(2 * v);
     }
+    if (!horn) put(1u << 30 | 3), put(2 * n + 1), put(2), put(4);
 }
 
 static void *do_run(void *unused) { reply = run(1, 1, 1000000, sheet, length); return unused; }
@@ -67,21 +70,24 @@ static size_t used(void *(*work)(void *))
     return SIZE - left;
 }
 
-/* A search that is n flips deep takes n + 1 calls on this sheet. */
-static size_t deepest(void *(*work)(void *), uint32_t n)
+/* A search that is n flips deep takes n + 1 calls on this sheet, and so many rounds where it is Horn. */
+static size_t deepest(void *(*work)(void *), uint32_t n, uint32_t road)
 {
     size_t bytes = used(work);
-    if (reply.verdict == ENGINE_CLEAR && reply.calls == n + 1) return bytes;
+    if (reply.verdict == ENGINE_CLEAR && reply.calls == n + 1 && reply.road == road) return bytes;
     fprintf(stderr, "the search is not %u flips deep\n", n);
     exit(1);
 }
 
 static void measure(uint32_t n)
 {
-    make(n);
     size_t base = used(do_nothing);
-    printf("n %u: run %zu bytes (blocks of 12: %zu), alike %zu bytes, clause_counts %zu bytes, tally_toggle %zu bytes\n", n,
-           deepest(do_run, n) - base, deepest(do_run_12, n) - base, used(do_alike) - base, used(do_counts) - base, used(do_toggle) - base);
+    make(n, 1);
+    size_t horn = deepest(do_run, n, ENGINE_HORN) - base;
+    make(n, 0);
+    printf("n %u: run %zu bytes (blocks of 12: %zu; Horn: %zu), alike %zu bytes, clause_counts %zu bytes, tally_toggle %zu bytes\n", n,
+           deepest(do_run, n, ENGINE_BALLS) - base, deepest(do_run_12, n, ENGINE_BALLS) - base, horn, used(do_alike) - base,
+           used(do_counts) - base, used(do_toggle) - base);
 }
 
 int main(void)

@@ -130,7 +130,7 @@ static int tally(int argc, char **argv)
 /* The engine's answer, as `clearing` prints it. */
 static int decide(char **argv)
 {
-    static const char *names[] = { "refused", "clear", "none", "spent" };
+    static const char *names[] = { "refused", "clear", "none", "spent" }, *roads[] = { "", "horn", "ball" };
     uint32_t size, radius, budget;
     size_t length;
     if (!number("BLOCK_LENGTH", argv[1], &size) || !number("RADIUS", argv[2], &radius) || !number("BUDGET", argv[3], &budget)) return 2;
@@ -140,7 +140,7 @@ static int decide(char **argv)
         printf("refused %u place %u\n", r.number, r.place);
         return 0;
     }
-    printf("batch %u %s calls %u", r.batch, names[r.verdict], r.calls);
+    printf("batch %u %s %s calls %u", r.batch, roads[r.road], names[r.verdict], r.calls);
     print_marks(r.marks);
     printf("\n");
     return 0;

@@ -1,6 +1,6 @@
 #!/bin/sh
-# Builds the static library, runs the C host on the sample and on bad arguments, and compares the library with an independent
-# implementation. test.sh [INPUTS]
+# Builds the static library, runs the C host on the sample, on Horn sheets and on bad arguments, and compares the library with an
+# independent implementation. test.sh [INPUTS]
 set -eu
 cd "$(dirname "$0")/.."
 mkdir -p target/host
@@ -11,6 +11,9 @@ rt staticlib engine >target/host/staticlib.log 2>&1 || {
 gcc -O2 -Wall -Wextra -Werror host/clear.c target/staticlib/libengine.a -o target/host/clear
 tail -c +13 crates/clearing/stdin >target/host/sheet
 echo 'batch 7 n 128 (1 32 33 64) (65 96 97 128) (-33 -128)' | tools/sheet write - -o target/host/wide
+# what follows from a fact stands before it; the second sheet holds it
+echo 'batch 8 n 128 (-64 -1 97) (-32 128 -97) (-1 64) (32) (1) (-2)' | tools/sheet write - -o target/host/horn
+echo 'batch 9 n 128 (-64 -1 97) (-32 128 -97) (-1 64) (32) (1) (-128)' | tools/sheet write - -o target/host/horn-none
 
 # The host prints this line for these arguments.
 prints() {
@@ -35,9 +38,21 @@ declines() {
 
 prints "$(cat crates/clearing/stdout)" 3 1 9 target/host/sheet
 prints "$(cat crates/clearing/stdout)" 3 1 4294967295 target/host/sheet
-prints "batch 70000 spent calls 1 marks 0 0 0 0" 03 1 1 target/host/sheet
-prints "batch 7 clear calls 3 marks 1 0 1 0" 1 1 3 target/host/wide
+prints "batch 70000 ball spent calls 1 marks 0 0 0 0" 03 1 1 target/host/sheet
+prints "batch 7 ball clear calls 3 marks 1 0 1 0" 1 1 3 target/host/wide
 prints "refused 8 place 0" 4294967295 1 9 target/host/sheet
+# by rounds, whatever the plan; but a bad one is refused
+for plan in '1 0' '1 1' '3 1' '12 0' '12 12'; do
+    prints "batch 8 horn clear calls 6 marks 2147483649 2147483648 0 2147483649" $plan 6 target/host/horn
+    prints "batch 8 horn clear calls 6 marks 2147483649 2147483648 0 2147483649" $plan 4294967295 target/host/horn
+    prints "batch 8 horn spent calls 5 marks 0 0 0 0" $plan 5 target/host/horn
+    prints "batch 9 horn none calls 6 marks 0 0 0 0" $plan 6 target/host/horn-none
+    prints "batch 9 horn spent calls 5 marks 0 0 0 0" $plan 5 target/host/horn-none
+    prints "batch 9 horn spent calls 0 marks 0 0 0 0" $plan 0 target/host/horn-none
+done
+prints "refused 8 place 0" 0 0 6 target/host/horn
+prints "refused 8 place 0" 13 1 6 target/host/horn-none
+prints "refused 8 place 0" 3 4 0 target/host/horn
 prints "clause 1 met 1 open 1
 clause 2 met 1 open 0
 clause 3 met 1 open 0" counts 1 1 target/host/sheet
@@ -99,6 +114,6 @@ declines 3 1 9 target/host/no-such-sheet
 declines 3 1 9 target/host
 declines tally
 declines tally target/host/no-such-sheet 1
-echo "host: printed the sample's line, how its clauses stand and a tally, and declined what is no number"
+echo "host: printed the lines of the sample and of Horn sheets, how clauses stand and a tally, and declined what is no number"
 rustc --edition 2021 -O host/differential.rs -L target/staticlib -l static=engine -o target/host/differential
 target/host/differential "${1:-200000}"

@@ -7,8 +7,8 @@
      valid during the call, and need live no longer: the library keeps no pointer. Meanwhile nobody writes them, and nobody reads
      the table or a tally. A pointer may be null where its length is 0. The two sheets of alike, and the two arrays of
      clause_counts, may share a buffer; the parts of a tally and its sheet may not.
-   - There is enough stack: run takes about 332 KB at its deepest (198 KB with 32 variables), alike 74 KB, clause_counts and the
-     operations on a tally 37 KB, covering_code 32 KB (docs/BENCH.md).
+   - There is enough stack: run takes about 325 KB at its deepest (191 KB with 32 variables, 147 KB on a Horn sheet), alike 74 KB,
+     clause_counts and the operations on a tally 37 KB, covering_code 32 KB (docs/BENCH.md).
 
    In every reply `number` and `place` are the refusal's number and place (README.md has the table); both are 0 where nothing
    is refused, and a refusal is told by number not 0. What does not belong to an answer is 0. */
@@ -25,21 +25,30 @@ extern "C" {
 /* What an answer of run is. */
 enum { ENGINE_REFUSED = 0, ENGINE_CLEAR = 1, ENGINE_NONE = 2, ENGINE_SPENT = 3 };
 
+/* How run decided. A sheet is Horn if each of its clauses has at most one positive literal; so is one without clauses, and an empty
+   clause is no hindrance. It is decided by rounds, and every other sheet by the search in balls. A refusal has no road. */
+enum { ENGINE_NO_ROAD = 0, ENGINE_HORN = 1, ENGINE_BALLS = 2 };
+
 /* An assignment, or a set of variables, is four words: variables 1 to 32 have the bits 0 to 31 of the first, 33 to 64 those of the
    second, and so on up to variable 128. A bit is 1 where the variable is paid, or in the set. */
 enum { ENGINE_WORDS = 4 };
 
-/* Clear has the assignment (marks) and the calls needed, none the calls needed, spent the budget as its calls. */
+/* Clear has the assignment (marks) and the calls needed, none the calls needed, spent the budget as its calls. On a Horn sheet calls
+   counts rounds, at most n + 1, and the marks of a clear are the least model: each variable paid there is paid in every model. */
 struct reply {
     uint32_t verdict;
     uint32_t batch;
+    uint32_t road;
     uint32_t marks[ENGINE_WORDS];
     uint32_t calls;
     uint32_t number;
     uint32_t place;
 };
 
-/* Decides the sheet with blocks of block_length variables and codes of the radius given, within budget calls. */
+/* Decides the sheet within budget calls, or rounds. A bad plan is refused first, then a bad sheet. Every sheet that is not Horn is
+   searched with blocks of block_length variables and codes of the radius given. For a Horn sheet the plan makes no difference, but a
+   bad one is still refused: marks begin as 0, and each round finds the first false clause. Where no clause is false that is clear;
+   where it has no positive literal that is none; otherwise the variable of its positive literal is paid, and the next round follows. */
 struct reply run(uint32_t block_length, uint32_t radius, uint32_t budget, const uint8_t *sheet, size_t length);
 
 /* How a clause stands: how many of its literals are met, and how many are open, that is not met and with a variable that is not

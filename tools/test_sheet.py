@@ -1,6 +1,6 @@
 #!/usr/bin/env python3
-"""Tests of tools/sheet: the paper's printed example, both formats there and back, an answer explained, each message, the
-plans with their bounds, and a solver's lines."""
+"""Tests of tools/sheet: the printed example of paper 01 with the method of paper 9 of 02, both formats there and back, an answer
+explained, each message, the plans with their bounds, and a solver's lines."""
 import importlib.machinery
 import importlib.util
 import os
@@ -46,32 +46,73 @@ class Sheets(unittest.TestCase):
         self.assertEqual(sheet.sheet_of(7, 128, [[128, -64]]), b''.join(w.to_bytes(4, 'little') for w in words))
 
     def test_clear_is_explained(self):
-        rows = sheet.explain(BYTES, 'batch 70000 clear calls 2 marks 1 0 0 0').split('\n')
-        self.assertEqual(rows[1:4], ['variable 1: pay', 'variable 2: hold', 'variable 3: hold'])
-        self.assertEqual(rows[4:], ['clause 1 (1 2): met by 1', 'clause 2 (-1 -3): met by -3', 'clause 3 (-3): met by -3'])
+        rows = sheet.explain(BYTES, 'batch 70000 ball clear calls 2 marks 1 0 0 0').split('\n')
+        self.assertEqual(rows[0], 'clear: batch 70000, 2 calls')
+        self.assertEqual(rows[1], 'ball: clause 1 (1 2) has more than one positive literal, so balls are searched')
+        self.assertEqual(rows[2:5], ['variable 1: pay', 'variable 2: hold', 'variable 3: hold'])
+        self.assertEqual(rows[5:], ['clause 1 (1 2): met by 1', 'clause 2 (-1 -3): met by -3', 'clause 3 (-3): met by -3'])
+        data = sheet.sheet_of(7, 2, [[1], [-1, -2]])
+        rows = sheet.explain(data, 'batch 7 horn clear calls 2 marks 1 0 0 0').split('\n')
+        self.assertEqual(rows[0], 'clear: batch 7, 2 rounds')
+        self.assertEqual(rows[1], 'horn: no clause has more than one positive literal; what is paid here is paid in every assignment that '
+                                  'meets all clauses')
+        self.assertEqual(rows[2:], ['variable 1: pay', 'variable 2: hold', 'clause 1 (1): met by 1', 'clause 2 (-1 -2): met by -2'])
+        rows = sheet.explain(sheet.sheet_of(7, 0, []), 'batch 7 horn clear calls 1 marks 0 0 0 0').split('\n')
+        self.assertEqual((rows[0], len(rows)), ('clear: batch 7, 1 round', 2))
 
     def test_marks_of_every_word(self):
         for v, marks in ENDS.items():
             for n in (127, 128):
                 if v <= n:
-                    data, line = sheet.sheet_of(0, n, [[v]]), 'batch 0 clear calls 2 marks ' + marks
+                    data, line = sheet.sheet_of(0, n, [[v]]), 'batch 0 horn clear calls 2 marks ' + marks
                     rows = sheet.explain(data, line).split('\n')
-                    self.assertEqual(rows[1:n + 1], ['variable %d: %s' % (u, 'pay' if u == v else 'hold') for u in range(1, n + 1)])
-                    self.assertEqual(rows[n + 1:], ['clause 1 (%d): met by %d' % (v, v)])
-                    self.assertEqual(sheet.marks_text(sheet.answer_of(line)[3]), marks)
-        every = sheet.answer_of('batch 0 clear calls 129 marks' + 4 * ' 4294967295')
-        self.assertEqual(every, ('clear', 0, 129, 2 ** 128 - 1))
+                    self.assertEqual(rows[2:n + 2], ['variable %d: %s' % (u, 'pay' if u == v else 'hold') for u in range(1, n + 1)])
+                    self.assertEqual(rows[n + 2:], ['clause 1 (%d): met by %d' % (v, v)])
+                    self.assertEqual(sheet.marks_text(sheet.answer_of(line)[4]), marks)
+        for method in ('horn', 'ball'):
+            every = sheet.answer_of('batch 0 %s clear calls 129 marks' % method + 4 * ' 4294967295')
+            self.assertEqual(every, ('clear', 0, method, 129, 2 ** 128 - 1))
 
     def test_marks_are_four_numbers(self):
         for marks in ('', '1', '1 0', '1 0 0', '1 0 0 0 0', '4294967296 0 0 0', '1 0 0 4294967296', '1 0 0 ' + '9' * 5000, '1 0 0 -1',
                       '1 0 0 x', '1,0,0,0', '1  0 0 0', '+1 0 0 0'):
             with self.assertRaises(sheet.Bad) as seen:
-                sheet.explain(BYTES, 'batch 70000 clear calls 2 marks ' + marks)
+                sheet.explain(BYTES, 'batch 70000 ball clear calls 2 marks ' + marks)
+            self.assertIn('no answer of the program', str(seen.exception))
+
+    def test_a_method_stands_in_the_line(self):
+        for line in ('batch 70000 clear calls 2 marks 1 0 0 0', 'batch 70000 balls clear calls 2 marks 1 0 0 0',
+                     'batch 70000 Horn clear calls 2 marks 1 0 0 0', 'batch 70000 clear ball calls 2 marks 1 0 0 0',
+                     'ball batch 70000 clear calls 2 marks 1 0 0 0', 'batch 70000 horn ball clear calls 2 marks 1 0 0 0',
+                     'batch 70000 ball refused 8 place 0', 'ball refused 8 place 0'):
+            with self.assertRaises(sheet.Bad) as seen:
+                sheet.explain(BYTES, line)
             self.assertIn('no answer of the program', str(seen.exception))
 
     def test_other_answers_are_explained(self):
-        self.assertIn('no assignment', sheet.explain(BYTES, 'batch 70000 none calls 2 marks 0 0 0 0'))
-        self.assertIn('more than 2', sheet.explain(BYTES, 'batch 70000 spent calls 2 marks 0 0 0 0'))
+        self.assertEqual(sheet.explain(BYTES, 'batch 70000 ball none calls 2 marks 0 0 0 0').split('\n'),
+                         ['none: no assignment meets every clause of batch 70000 (2 calls)',
+                          'ball: clause 1 (1 2) has more than one positive literal, so balls are searched'])
+        self.assertIn('more than 2 calls;', sheet.explain(BYTES, 'batch 70000 ball spent calls 2 marks 0 0 0 0'))
+        data = sheet.sheet_of(7, 1, [[1], [-1]])
+        self.assertEqual(sheet.explain(data, 'batch 7 horn none calls 2 marks 0 0 0 0').split('\n'),
+                         ['none: no assignment meets every clause of batch 7 (2 rounds)',
+                          'horn: no clause has more than one positive literal; each round pays what the first false clause asks for'])
+        self.assertIn('more than 1 round;', sheet.explain(data, 'batch 7 horn spent calls 1 marks 0 0 0 0'))
+
+    def test_the_method_is_the_sheets(self):
+        for clauses, at in (([], None), ([[]], None), ([[1]], None), ([[-1, -2]], None), ([[1], [2], [3]], None),
+                            ([[-1, 2, -3], [3], [-2, -1]], None), ([[1, 2]], 1), ([[1], [-1, -2], [-1, 2, 3]], 3),
+                            ([[-1, -2, -3, 4, -5, -6, -7, -8]], None), ([[1, -2, -3, -4, -5, -6, -7, 8]], 1)):
+            self.assertEqual(sheet.two_positive(clauses), at)
+            right, wrong = ('ball', 'horn') if at else ('horn', 'ball')
+            data = sheet.sheet_of(0, 8, clauses)
+            for verdict in ('none', 'spent'):
+                line = 'batch 0 %%s %s calls 1 marks 0 0 0 0' % verdict
+                self.assertIn('\n%s: ' % right, sheet.explain(data, line % right))
+                with self.assertRaises(sheet.Bad) as seen:
+                    sheet.explain(data, line % wrong)
+                self.assertEqual(str(seen.exception), 'the line says %s, and this sheet is decided by %s' % (wrong, right))
 
     def test_refusals_are_explained(self):
         for number in (3, 4, 5, 6, 7):
@@ -84,15 +125,16 @@ class Sheets(unittest.TestCase):
         self.assertIn('at word 9219:', sheet.explain(BYTES, 'refused 4 place 9219'))
 
     def test_a_wrong_answer_is_seen(self):
-        for line in ('batch 70000 clear calls 2 marks 4 0 0 0', 'batch 1 clear calls 2 marks 1 0 0 0', 'yes'):
+        for line in ('batch 70000 ball clear calls 2 marks 4 0 0 0', 'batch 1 ball clear calls 2 marks 1 0 0 0',
+                     'batch 70000 horn clear calls 2 marks 1 0 0 0', 'yes'):
             with self.assertRaises(sheet.Bad):
                 sheet.explain(BYTES, line)
         for marks in ('9 0 0 0', '1 1 0 0', '1 0 1 0', '1 0 0 2147483648'):
             with self.assertRaises(sheet.Bad) as seen:
-                sheet.explain(BYTES, 'batch 70000 clear calls 2 marks ' + marks)
+                sheet.explain(BYTES, 'batch 70000 ball clear calls 2 marks ' + marks)
             self.assertEqual(str(seen.exception), 'marks %s: a bit above variable 3 is set' % marks)
         with self.assertRaises(sheet.Bad) as seen:
-            sheet.explain(sheet.sheet_of(0, 127, []), 'batch 0 clear calls 1 marks 0 0 0 2147483648')
+            sheet.explain(sheet.sheet_of(0, 127, []), 'batch 0 horn clear calls 1 marks 0 0 0 2147483648')
         self.assertIn('above variable 127', str(seen.exception))
 
     def test_messages_name_the_line(self):
@@ -197,6 +239,12 @@ class Plans(unittest.TestCase):
         self.assertEqual(len({len(row) for row in rows[1:]}), 1)
         self.assertIn(['12', '12', '1', '128', str((3 ** 129 - 1) // 2)], [row.split() for row in rows])
 
+    def test_the_table_of_a_horn_formula(self):
+        for n, bound in ((0, '1 round'), (1, '2 rounds'), (128, '129 rounds')):
+            rows = sheet.show_plans(n, [[-v] for v in range(1, n + 1)]).split('\n')
+            self.assertEqual(rows[1], '# Horn: at most %s, whatever the plan: these bounds are of balls, and none are searched' % bound)
+            self.assertEqual((len(rows), rows[3].split()[0]), (93, '*'))
+
 
 class Solver(unittest.TestCase):
     """A solver's lines, from a program that prints one line and keeps its input."""
@@ -213,7 +261,7 @@ class Solver(unittest.TestCase):
         return lines, status
 
     def test_satisfiable(self):
-        lines, status = self.solve(TEXT, 'batch 70000 clear calls 2 marks 1 0 0 0')
+        lines, status = self.solve(TEXT, 'batch 70000 ball clear calls 2 marks 1 0 0 0')
         self.assertEqual(lines, ['c plan 3 1, budget 4294967295', 'c M 2, R 1, longest clause 2: at most 6 calls', 'c calls 2',
                                  's SATISFIABLE', 'v 1 -2 -3 0'])
         self.assertEqual(status, 10)
@@ -221,35 +269,43 @@ class Solver(unittest.TestCase):
 
     def test_128_variables(self):
         text = 'p cnf 128 8\n1 0 32 0 33 0 64 0 65 0 96 0 97 0 128 0\n'
-        lines, status = self.solve(text, 'batch 0 clear calls 9 marks' + 4 * ' 2147483649')
-        self.assertEqual(lines[:4], ['c plan 1 1, budget 4294967295', 'c M 1, R 128, longest clause 1: at most 129 calls', 'c calls 9',
+        lines, status = self.solve(text, 'batch 0 horn clear calls 9 marks' + 4 * ' 2147483649')
+        self.assertEqual(lines[:4], ['c plan 1 1, budget 4294967295', 'c Horn: at most 129 rounds, whatever the plan', 'c rounds 9',
                                      's SATISFIABLE'])
         paid = (1, 32, 33, 64, 65, 96, 97, 128)
         literals = [int(word) for line in lines[4:] for word in line.split()[1:]]
         self.assertEqual(literals, [v if v in paid else -v for v in range(1, 129)] + [0])
         self.assertEqual(status, 10)
         with self.assertRaises(sheet.Bad) as seen:
-            self.solve(text, 'batch 0 clear calls 9 marks 2147483649 2147483649 2147483649 1')
+            self.solve(text, 'batch 0 horn clear calls 9 marks 2147483649 2147483649 2147483649 1')
         self.assertIn('clause 8, (128)', str(seen.exception))
+        lines, status = self.solve('p cnf 128 1\n1 128 0\n', 'batch 0 ball clear calls 2 marks 1 0 0 0', (1, 1, 9))
+        self.assertEqual(lines[:4], ['c plan 1 1, budget 9', 'c M 1, R 128, longest clause 2: at most %d calls' % (2 ** 129 - 1),
+                                     'c calls 2', 's SATISFIABLE'])
 
     def test_unsatisfiable(self):
-        lines, status = self.solve('p cnf 1 2\n1 0\n-1 0\n', 'batch 0 none calls 2 marks 0 0 0 0', (1, 1, 9))
-        self.assertEqual(lines, ['c plan 1 1, budget 9', 'c M 1, R 1, longest clause 1: at most 2 calls', 'c calls 2', 's UNSATISFIABLE'])
+        lines, status = self.solve('p cnf 1 2\n1 0\n-1 0\n', 'batch 0 horn none calls 2 marks 0 0 0 0', (1, 1, 9))
+        self.assertEqual(lines, ['c plan 1 1, budget 9', 'c Horn: at most 2 rounds, whatever the plan', 'c rounds 2', 's UNSATISFIABLE'])
         self.assertEqual(status, 20)
         self.assertEqual(self.input[:12], b'\1\0\0\0' + b'\1\0\0\0' + b'\x09\0\0\0')
+        lines, status = self.solve('n 2 (1 2) (-1) (-2)', 'batch 0 ball none calls 1 marks 0 0 0 0', (1, 1, 9))
+        self.assertEqual((lines[1:], status), (['c M 1, R 2, longest clause 2: at most 7 calls', 'c calls 1', 's UNSATISFIABLE'], 20))
 
     def test_unknown(self):
-        lines, status = self.solve(TEXT, 'batch 70000 spent calls 1 marks 0 0 0 0', (3, 1, 1))
+        lines, status = self.solve(TEXT, 'batch 70000 ball spent calls 1 marks 0 0 0 0', (3, 1, 1))
         self.assertEqual((lines[-1], status), ('s UNKNOWN', 0))
         self.assertIn('c spent: the search needs more calls than the budget', lines)
+        lines, status = self.solve('n 1 (1) (-1)', 'batch 0 horn spent calls 1 marks 0 0 0 0', (1, 1, 1))
+        self.assertEqual((lines[-3:], status), (['c rounds 1', 'c spent: the search needs more rounds than the budget', 's UNKNOWN'], 0))
         lines, status = self.solve(TEXT, 'refused 8 place 0', (13, 1, 1))
         self.assertEqual((lines[-1], status), ('s UNKNOWN', 0))
         self.assertIn('c refused: bad plan', lines[-2])
 
     def test_an_assignment_is_checked_first(self):
-        for said in ('batch 70000 clear calls 2 marks 4 0 0 0', 'batch 70000 clear calls 2 marks 9 0 0 0',
-                     'batch 70000 clear calls 2 marks 1 0 0 1', 'batch 1 clear calls 2 marks 1 0 0 0',
-                     'batch 70000 clear calls 2 marks 1', 'yes'):
+        for said in ('batch 70000 ball clear calls 2 marks 4 0 0 0', 'batch 70000 ball clear calls 2 marks 9 0 0 0',
+                     'batch 70000 ball clear calls 2 marks 1 0 0 1', 'batch 1 ball clear calls 2 marks 1 0 0 0',
+                     'batch 70000 ball clear calls 2 marks 1', 'batch 70000 horn clear calls 2 marks 1 0 0 0',
+                     'batch 70000 clear calls 2 marks 1 0 0 0', 'yes'):
             with self.assertRaises(sheet.Bad):
                 self.solve(TEXT, said)
 

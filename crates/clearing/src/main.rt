@@ -35,12 +35,21 @@ fn print_verdict(verdict: u32) {
     }
 }
 
+fn print_method(method: u32) {
+    if method == engine::HORN {
+        io::write_all(STDOUT_FILENO, b" horn");
+    } else {
+        io::write_all(STDOUT_FILENO, b" ball");
+    }
+}
+
 fn print_line(reply: Reply) {
     if reply.verdict == engine::REFUSED {
         print_number(b"refused ", reply.number);
         print_number(b" place ", reply.place);
     } else {
         print_number(b"batch ", reply.batch);
+        print_method(reply.road);
         print_verdict(reply.verdict);
         print_number(b" calls ", reply.calls);
         print_number(b" marks ", reply.marks0);

@@ -1,5 +1,5 @@
--- The settled examples of paper 01 as paper 7 of 02 amends them, the one of paper 4, one over four words, one for each of paper 6's
--- two rules, and two of paper 7's, proved from the definitions by one joint statement about one table.
+-- The settled examples of paper 01 as papers 7 and 9 of 02 amend them, the one of paper 4, one over four words
+-- by each road, one for each of paper 6's two rules, two of paper 7's and four of paper 9's, proved from the definitions by one joint statement about one table.
 use mathlib.Core.Path.{_≡_, refl}
 use mathlib.Core.Bool.{true, false}
 use mathlib.Core.List.{List, [], _∷_, _++_, map}
@@ -21,9 +21,10 @@ use Rattle.tree.specs.Explore as Explore
 use Rattle.tree.specs.Budget as Budget
 use Rattle.search.specs.Ball as Ball
 use Rattle.search.specs.Run as Search
+use Rattle.horn.specs.Horn as Horn
 use Rattle.engine.specs.declared.Reply.{Reply}
 use Rattle.engine.specs.Answers as Answers
-use Rattle.engine.specs.Answers.{replyTo, CLEAR, NONE, SPENT}
+use Rattle.engine.specs.Answers.{replyTo, CLEAR, NONE, SPENT, HORN, BALLS}
 
 -- a positive and a negative literal
 abbrev pos : ℕ → Literal
@@ -42,7 +43,7 @@ pub data Question : Type 0 where
 -- the numbers of an answer
 numbers : Reply → List ℕ
 numbers r =
-    r .verdict ∷ r .batch ∷ r .marks0 ∷ r .marks1 ∷ r .marks2 ∷ r .marks3 ∷ r .calls ∷ r .number ∷ r .place ∷ []
+    r .verdict ∷ r .batch ∷ r .road ∷ r .marks0 ∷ r .marks1 ∷ r .marks2 ∷ r .marks3 ∷ r .calls ∷ r .number ∷ r .place ∷ []
 
 answerNumbers : Answer → List ℕ
 answerNumbers (Number n) = n ∷ []
@@ -72,17 +73,21 @@ opposites = sheet 1 ((pos 1 ∷ []) ∷ (neg 1 ∷ []) ∷ [])
 abbrev all-four : Formula
 all-four = sheet 2 ((pos 1 ∷ pos 2 ∷ []) ∷ (pos 1 ∷ neg 2 ∷ []) ∷ (neg 1 ∷ pos 2 ∷ []) ∷ (neg 1 ∷ neg 2 ∷ []) ∷ [])
 
+-- each round but the last sets a variable, and the second one finds a clause before the first one's
+abbrev chain : Formula
+chain = sheet 3 ((neg 1 ∷ pos 3 ∷ []) ∷ (pos 1 ∷ []) ∷ (neg 3 ∷ neg 1 ∷ pos 2 ∷ []) ∷ [])
+
 abbrev no-marks : List ℕ
 no-marks = 0 ∷ 0 ∷ 0 ∷ 0 ∷ []
 
-abbrev the-clear : List ℕ → ℕ → List ℕ
-the-clear marks calls = CLEAR ∷ 0 ∷ marks ++ (calls ∷ 0 ∷ 0 ∷ [])
+abbrev the-clear : ℕ → List ℕ → ℕ → List ℕ
+the-clear road marks calls = CLEAR ∷ 0 ∷ road ∷ marks ++ (calls ∷ 0 ∷ 0 ∷ [])
 
-abbrev the-none : ℕ → List ℕ
-the-none calls = NONE ∷ 0 ∷ no-marks ++ (calls ∷ 0 ∷ 0 ∷ [])
+abbrev the-none : ℕ → ℕ → List ℕ
+the-none road calls = NONE ∷ 0 ∷ road ∷ no-marks ++ (calls ∷ 0 ∷ 0 ∷ [])
 
-abbrev the-spent : ℕ → List ℕ
-the-spent calls = SPENT ∷ 0 ∷ no-marks ++ (calls ∷ 0 ∷ 0 ∷ [])
+abbrev the-spent : ℕ → ℕ → List ℕ
+the-spent road calls = SPENT ∷ 0 ∷ road ∷ no-marks ++ (calls ∷ 0 ∷ 0 ∷ [])
 
 pub record Row : Type 0 where
   pub question : Question
@@ -93,21 +98,22 @@ row q a = record { question = q; answer = a }
 
 pub examples : List Row
 examples =
-    row (run-of 3 1 1 (sheet 0 [])) (the-clear no-marks 1)
-    ∷ row (run-of 3 1 9 (sheet 0 ([] ∷ []))) (the-none 1)
-    ∷ row (run-of 3 1 9 (sheet 3 ((pos 1 ∷ pos 2 ∷ []) ∷ (neg 1 ∷ neg 3 ∷ []) ∷ (neg 3 ∷ []) ∷ []))) (the-clear (1 ∷ 0 ∷ 0 ∷ 0 ∷ []) 2)
-    ∷ row (run-of 1 1 2 opposites) (the-none 1)
-    ∷ row (run-of 1 1 1 opposites) (the-none 1)
-    ∷ row (run-of 1 0 2 opposites) (the-none 2)
-    ∷ row (run-of 2 1 6 all-four) (the-none 6)
-    ∷ row (run-of 2 2 5 all-four) (the-none 3)
-    ∷ row (run-of 2 2 2 all-four) (the-spent 2)
-    ∷ row (run-of 3 3 2 (sheet 3 ((pos 1 ∷ []) ∷ (pos 2 ∷ pos 3 ∷ []) ∷ (neg 1 ∷ []) ∷ []))) (the-none 1)
-    ∷ row (run-of 1 1 9 (sheet 128 ((pos 128 ∷ []) ∷ (pos 33 ∷ []) ∷ (neg 32 ∷ []) ∷ []))) (the-clear (0 ∷ 1 ∷ 0 ∷ 2 ^ 31 ∷ []) 3)
+    row (run-of 3 1 1 (sheet 0 [])) (the-clear HORN no-marks 1)
+    ∷ row (run-of 3 1 9 (sheet 0 ([] ∷ []))) (the-none HORN 1)
+    ∷ row (run-of 3 1 9 (sheet 3 ((pos 1 ∷ pos 2 ∷ []) ∷ (neg 1 ∷ neg 3 ∷ []) ∷ (neg 3 ∷ []) ∷ []))) (the-clear BALLS (1 ∷ 0 ∷ 0 ∷ 0 ∷ []) 2)
+    ∷ row (run-of 1 1 2 opposites) (the-none HORN 2)
+    ∷ row (run-of 1 1 1 opposites) (the-spent HORN 1)
+    ∷ row (run-of 1 0 2 opposites) (the-none HORN 2)
+    ∷ row (run-of 2 1 6 all-four) (the-none BALLS 6)
+    ∷ row (run-of 2 2 5 all-four) (the-none BALLS 3)
+    ∷ row (run-of 2 2 2 all-four) (the-spent BALLS 2)
+    ∷ row (run-of 3 3 2 (sheet 3 ((pos 1 ∷ []) ∷ (pos 2 ∷ pos 3 ∷ []) ∷ (neg 1 ∷ []) ∷ []))) (the-none BALLS 1)
+    ∷ row (run-of 1 1 9 (sheet 128 ((pos 128 ∷ []) ∷ (pos 33 ∷ []) ∷ (neg 32 ∷ []) ∷ []))) (the-clear HORN (0 ∷ 1 ∷ 0 ∷ 2 ^ 31 ∷ []) 3)
+    ∷ row (run-of 1 1 9 (sheet 128 ((pos 33 ∷ pos 128 ∷ []) ∷ (neg 33 ∷ []) ∷ (pos 64 ∷ []) ∷ []))) (the-clear BALLS (0 ∷ 2 ^ 31 ∷ 0 ∷ 2 ^ 31 ∷ []) 3)
     ∷ row (run-of 1 1 3 (sheet 5 ((pos 1 ∷ pos 2 ∷ pos 3 ∷ []) ∷ (pos 4 ∷ pos 5 ∷ []) ∷ (neg 1 ∷ neg 4 ∷ []) ∷ [])))
-    (the-clear (10 ∷ 0 ∷ 0 ∷ 0 ∷ []) 3)
-    ∷ row (run-of 1 1 2 (sheet 3 ((pos 1 ∷ pos 2 ∷ pos 3 ∷ []) ∷ (neg 1 ∷ []) ∷ []))) (the-clear (2 ∷ 0 ∷ 0 ∷ 0 ∷ []) 2)
-    ∷ row (run-of 1 1 2 (sheet 2 ((pos 1 ∷ pos 2 ∷ []) ∷ (neg 1 ∷ []) ∷ []))) (the-clear (2 ∷ 0 ∷ 0 ∷ 0 ∷ []) 2)
+    (the-clear BALLS (10 ∷ 0 ∷ 0 ∷ 0 ∷ []) 3)
+    ∷ row (run-of 1 1 2 (sheet 3 ((pos 1 ∷ pos 2 ∷ pos 3 ∷ []) ∷ (neg 1 ∷ []) ∷ []))) (the-clear BALLS (2 ∷ 0 ∷ 0 ∷ 0 ∷ []) 2)
+    ∷ row (run-of 1 1 2 (sheet 2 ((pos 1 ∷ pos 2 ∷ []) ∷ (neg 1 ∷ []) ∷ []))) (the-clear BALLS (2 ∷ 0 ∷ 0 ∷ 0 ∷ []) 2)
     ∷ row (run-of 3 3 3 (sheet 5
     ((neg 3 ∷ neg 2 ∷ pos 1 ∷ [])
     ∷ (pos 2 ∷ pos 1 ∷ pos 5 ∷ neg 3 ∷ neg 4 ∷ [])
@@ -115,7 +121,11 @@ examples =
     ∷ (pos 4 ∷ neg 5 ∷ pos 3 ∷ pos 2 ∷ [])
     ∷ (pos 3 ∷ [])
     ∷ [])))
-    (the-clear (20 ∷ 0 ∷ 0 ∷ 0 ∷ []) 3)
+    (the-clear BALLS (20 ∷ 0 ∷ 0 ∷ 0 ∷ []) 3)
+    ∷ row (run-of 3 1 3 (sheet 3 ((pos 1 ∷ []) ∷ (pos 2 ∷ []) ∷ (neg 1 ∷ []) ∷ []))) (the-none HORN 3)
+    ∷ row (run-of 3 1 3 (sheet 3 ((pos 1 ∷ []) ∷ (neg 1 ∷ []) ∷ (pos 2 ∷ []) ∷ []))) (the-none HORN 2)
+    ∷ row (run-of 2 2 4 chain) (the-clear HORN (7 ∷ 0 ∷ 0 ∷ 0 ∷ []) 4)
+    ∷ row (run-of 2 2 3 chain) (the-spent HORN 3)
     ∷ row (code-of 2 1) (0 ∷ 1 ∷ [])
     ∷ row (code-of 3 1) (0 ∷ 7 ∷ [])
     ∷ row (code-of 4 1) (0 ∷ 7 ∷ 8 ∷ 15 ∷ [])
@@ -142,7 +152,9 @@ unfolding examples ask numbers answerNumbers wordsIn
     Ball.flip Ball.isTried Ball.tried Ball.branch Ball.select Ball.skip Ball.rule Ball.ballTree Ball.ballSearch
     Search.blockOf Search.shortBlock Search.blocks Search.summedRadius Search.centreCount Search.centreAt
     Search.searchOf Search.ball Search.run
+    Horn.positives Horn.isHorn Horn.firstFalse Horn.hornTree Horn.rounds
     Budget.whole Budget.answer
-    Answers.outcome Answers.refusal Answers.decided Answers.decision Answers.numbersOf replyTo
+    Answers.methodOf Answers.outcome Answers.refusal Answers.judged Answers.decided Answers.decision
+    Answers.methodNumber Answers.numbersOf Answers.replyOf replyTo
     lib.Count.ones lib.Count.onesIn
 examples-hold = refl

@@ -3,6 +3,7 @@ pub mod Answers
 pub mod Replies
 pub mod Right
 pub mod Demands
+pub mod HornAnswers
 pub mod AlikeAnswers
 pub mod CountsAnswers
 pub mod TallyAnswers

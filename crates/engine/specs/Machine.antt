@@ -17,7 +17,7 @@ verdictIn (Spent c) = answered (spent c)
 verdictIn (Refused r) = Spec.refused (r .number) (r .place)
 
 unfoldable pub decisionIn : Decision → Spec.Decision
-decisionIn d = record { batch = d .batch; verdict = verdictIn (d .verdict) }
+decisionIn d = record { batch = d .batch; method = d .method; verdict = verdictIn (d .verdict) }
 
 -- the numbers of what an operation on a tally comes to
 unfoldable pub outcomeReply : Outcome → TallyReply

@@ -5,6 +5,7 @@ use mathlib.Core.List.{List, []}
 use Prim.Native.Nat.{ℕ, _≤_}
 use lib.ListN.{getD}
 use Rattle.words.specs.declared.Refusal.{Refusal}
+use Rattle.formula.specs.Formula.{Formula}
 use Rattle.formula.specs.Sheet.{Result, accepted, refused}
 use Rattle.formula.specs.Machine.{SheetRead, held}
 use Rattle.formula.specs.ReadingLaws.{sheet-accepted, sheet-refused}
@@ -15,13 +16,15 @@ use Rattle.code.specs.Operations.{coded?}
 use Rattle.code.specs.OperationLaws.{coded-bounds}
 use Rattle.tree.specs.Budget.{Answer, answer}
 use Rattle.search.specs.Ball.{State, Reading as ClauseReading, reading}
-use Rattle.search.specs.Run.{plan, blocks, searchOf, run}
+use Rattle.search.specs.Run.{Plan, plan, blocks, searchOf, run}
 use Rattle.search.specs.Machine.{searchIn}
+use Rattle.horn.specs.Horn.{isHorn, rounds}
 use Rattle.tally.specs.Tally.{Tally}
 use Rattle.tally.specs.Machine.{outcomeOf, Comes}
 use Rattle.tally.specs.declared.Outcome.{Outcome}
 use Rattle.engine.specs.declared.exports.TallyReply.{TallyReply}
-use Rattle.engine.specs.Answers.{outcome, refusal, answered, decided, decision, BAD-PLAN}
+use Rattle.engine.specs.declared.Method.the-variants.{Horn, Balls}
+use Rattle.engine.specs.Answers.{methodOf, outcome, refusal, answered, judged, decided, decision, BAD-PLAN}
 use Rattle.engine.specs.Replies.{clauseCountsOf, clauseCountsTo, tallyReplyOf, TallyMade}
 use Rattle.engine.specs.Machine.{outcomeReply}
 
@@ -41,12 +44,27 @@ module _ (size radius A : ℕ) (s : List ℕ) where
     unfolding decision decided
     decide-declined q e = rw (good, sheet-refused s r cells h q e)
 
-    -- and otherwise the search over what was read.
-    pub decide-searched : (b n k : ℕ) → r ≡ Accepted b n k →
-        (a : Answer) → a ≡ answer A (run (searchIn k cells (blocks code (plan size radius) n))) →
-        record { batch = b; verdict = answered a } ≡ decision (plan size radius) A s
-    unfolding decision decided outcome searchIn searchOf
-    decide-searched b n k e a g = rw (good, sheet-accepted s r cells h b n k e .0, g)
+    -- and otherwise the decision on what was read:
+    pub decide-judged : (b n k : ℕ) → r ≡ Accepted b n k →
+        judged (plan size radius) A (record { batch = b; n = n; clauses = held k cells }) ≡ decision (plan size radius) A s
+    unfolding decision decided
+    decide-judged b n k e = rw (good, sheet-accepted s r cells h b n k e .0)
+
+module _ (p : Plan) (A b n k : ℕ) (cells : List ℕ) where
+  abbrev formula : Formula
+  formula = record { batch = b; n = n; clauses = held k cells }
+
+  -- by rounds where it is Horn,
+  pub judged-horn : isHorn (held k cells) ≡ true → (a : Answer) → a ≡ answer A (rounds n (held k cells)) →
+      record { batch = b; method = Horn; verdict = answered a } ≡ judged p A formula
+  unfolding judged methodOf outcome
+  judged-horn e a g = rw (e, g)
+
+  -- and by balls otherwise.
+  pub judged-balls : isHorn (held k cells) ≡ false → (a : Answer) → a ≡ answer A (run (searchIn k cells (blocks code p n))) →
+      record { batch = b; method = Balls; verdict = answered a } ≡ judged p A formula
+  unfolding judged methodOf outcome searchIn searchOf
+  judged-balls e a g = rw (e, g)
 
 -- ---- a clause's reading
 

@@ -10,21 +10,25 @@ use Rattle.formula.specs.Refusals.{Reason}
 use Rattle.code.specs.Operations.{coded?}
 use Rattle.search.specs.Run.{Plan}
 use Rattle.engine.specs.declared.Reply.{Reply}
-use Rattle.engine.specs.Answers.{counts, declines, marksOf, BAD-PLAN, CLEAR, NONE, SPENT}
+use Rattle.engine.specs.Answers.{methodOf, methodNumber, counts, declines, marksOf, BAD-PLAN, CLEAR, NONE, SPENT}
 
 -- A plan and a sheet are accepted: none of the refusals that concern run applies to them, and f is what the sheet means.
 pub record Accepted (p : Plan) (s : List ℕ) (f : Formula) : Type 0 where
   pub plan : coded? (p .size) (p .radius) ≡ true
   pub sheet : parse s ≡ accepted f
 
+-- the number of the method that decides a formula
+abbrev pub decidedBy : Formula → ℕ
+decidedBy f = methodNumber (methodOf f)
+
 -- Clear, none, spent, or a refusal with its place and everything else 0.
 pub data Answered (p : Plan) (s : List ℕ) : Reply → Type 0 where
   bad-plan : coded? (p .size) (p .radius) ≡ false → Answered p s (declines BAD-PLAN 0)
   bad-sheet : {number place : ℕ} → coded? (p .size) (p .radius) ≡ true → Reason s number place →
       Answered p s (declines number place)
-  is-clear : {f : Formula} {c : ℕ} (m : ℕ) → Accepted p s f → Answered p s (counts CLEAR (f .batch) m c)
-  is-none : {f : Formula} {c : ℕ} → Accepted p s f → Answered p s (counts NONE (f .batch) 0 c)
-  is-spent : {f : Formula} {c : ℕ} → Accepted p s f → Answered p s (counts SPENT (f .batch) 0 c)
+  is-clear : {f : Formula} {c : ℕ} (m : ℕ) → Accepted p s f → Answered p s (counts CLEAR (f .batch) (decidedBy f) m c)
+  is-none : {f : Formula} {c : ℕ} → Accepted p s f → Answered p s (counts NONE (f .batch) (decidedBy f) 0 c)
+  is-spent : {f : Formula} {c : ℕ} → Accepted p s f → Answered p s (counts SPENT (f .batch) (decidedBy f) 0 c)
 
 -- What a reply r within the budget A says of an accepted formula that needs so many calls.
 pub record Right (f : Formula) (needed A : ℕ) (r : Reply) : Type 0 where

@@ -11,10 +11,11 @@ use native.Mathlib.Omega.{arith}
 use lib.ListN.{length, getD, take, drop, length-map, length-drop, List·getD-map, List·getD-eq-default, drop-of-length-le}
 use lib.Seq.{take-take, take-nil, getD-take, length-take-le, drop-cons, getD-drop}
 use Rattle.words.specs.Lists.{In, keep, count, span}
-use Rattle.words.specs.ListLaws.{in-span, length-span, getD-span}
+use Rattle.words.specs.ListLaws.{in-span, span-in, length-span, getD-span}
 use Rattle.words.specs.BitLaws.{digit}
 use Rattle.words.specs.CountLaws.{count-cons}
 use Rattle.formula.specs.Formula.{Literal, Clause, literalOf, lengthLimit, WellFormedClause}
+use Rattle.formula.specs.ModelLaws.{Known}
 use Rattle.formula.specs.Machine.{rowCells, lengthAt, literalAt, clauseAt, held, Table, Row, Rows}
 
 -- ---- parts of a list
@@ -88,6 +89,21 @@ map-in f (y ∷ xs) x i =
 pub held-in : (k : ℕ) (cells : List ℕ) (i : ℕ) → i < k → In (clauseAt cells i) (held k cells)
 unfolding held
 held-in k cells i h = map-in (clauseAt cells) (span 0 k) i (in-span 0 k i (omega arith) (omega arith))
+
+in-map : {A B : Type 0} (f : A → B) (xs : List A) (y : B) → In y (map f xs) → (x : A) × In x xs × (y ≡ f x)
+in-map f [] y i = absurd (List·Memᴰ·not-nil i)
+in-map f (x ∷ xs) y i =
+    ⊎-elim
+    (λ e. (x, List·Memᴰ·head refl, e))
+    (λ j. let (z, i′, e) = in-map f xs y j in (z, List·Memᴰ·tail i′, e))
+    (List·Memᴰ·cases-cons i)
+
+pub in-held : (k : ℕ) (cells : List ℕ) (c : Clause) → In c (held k cells) → (i : ℕ) × (i < k) × (c ≡ clauseAt cells i)
+unfolding held
+in-held k cells c j =
+    let (i, h, e) = in-map (clauseAt cells) (span 0 k) c j in
+    let inside = span-in 0 k i h in
+    (i, omega arith, e)
 
 -- ---- clause by clause
 
@@ -177,3 +193,8 @@ table-wider n m k cells l t = record { size = t .size; room = t .room; short = t
   where
     wider : {c : Clause} → WellFormedClause n c → WellFormedClause m c
     wider f = record { short = f .short; known = λ x j. (f .known x j .0, le-trans (f .known x j .1) l); once = f .once }
+
+-- the clauses of a table are over its variables
+pub table-known : {n k : ℕ} {cells : List ℕ} → Table n k cells → Known n (held k cells)
+unfolding Known
+table-known {n} {k} {cells} t c i l j = let (u, h, e) = in-held k cells c i in t .each u h .known l (rw e at j)

@@ -56,11 +56,11 @@ pub words-some : (b : Block) → Covered b → 0 < length (b .code)
 words-some b h = let l = covers-at b h 0 (pow-pos (b .size)) .1 in omega arith
 
 -- a number of two digits, the low one below k and the high one below h
-digits-lt : (h k a r : ℕ) → a < h → r < k → a * k + r < k * h
+pub digits-lt : (h k a r : ℕ) → a < h → r < k → a * k + r < k * h
 digits-lt h k a r p q = let l = mul-le-mul-right {m = suc a} k p in omega (arith, l, mul-comm k h)
 
 -- a low block of t bits before a number, against a number with such a block
-distance-low : (t a u w : ℕ) → u < 2 ^ t → distance (a * 2 ^ t + u) w ≡ distance a (w / 2 ^ t) + distance u (w % 2 ^ t)
+pub distance-low : (t a u w : ℕ) → u < 2 ^ t → distance (a * 2 ^ t + u) w ≡ distance a (w / 2 ^ t) + distance u (w % 2 ^ t)
 distance-low t a u w l = rw (split w t) at (distance-blocks t a (w / 2 ^ t) u (w % 2 ^ t) l (mod-lt w (pow-pos t)))
 
 -- ---- the centres

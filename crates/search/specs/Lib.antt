@@ -6,6 +6,7 @@ pub mod Machine
 pub mod ReadingLaws
 pub mod RuleLaws
 pub mod CentreLaws
+pub mod ReachLaws
 pub mod RunLaws
 pub mod CallLaws
 pub mod CountLaws

@@ -1,10 +1,10 @@
 -- Laws of `try` and `explore` for every tree: what is found, when something is found, and how many calls it takes.
-use mathlib.Core.Path.{_≡_, refl, ap, _∙_}
+use mathlib.Core.Path.{_≡_, refl, ap, ap₂, _∙_}
 use mathlib.Core.Logic.{_⊎_, inl, inr, ⊎-elim}
 use mathlib.Core.Bool.{Bool, true, false}
 use mathlib.Core.List.{List, [], _∷_, List·Memᴰ·head, List·Memᴰ·tail, List·Memᴰ·not-nil, List·Memᴰ·cases-cons}
 use Prim.Native.Nat.{ℕ, zero, suc, _+_, _*_, _^_, _≤_}
-use native.Mathlib.Nat.{le-refl, le-trans, mul-add, mul-le-mul-right, pow-zero, pow-suc, mul-comm}
+use native.Mathlib.Nat.{le-refl, le-trans, le-of-suc-le-suc, add-zero, zero-mul, one-mul, mul-add, mul-le-mul-right, pow-zero, pow-suc, mul-comm}
 use native.Mathlib.Omega.{arith}
 use lib.ListN.{length}
 use Rattle.words.specs.Lists.{In}
@@ -51,6 +51,12 @@ unfolding after calls
 after-calls (found m c) p = omega arith
 after-calls (none c) p = omega (arith, calls-plus c p)
 
+-- nothing found afterwards changes nothing
+pub after-nothing : (o : Outcome) → after o (none 0) ≡ o
+unfolding after plus
+after-nothing (found m c) = refl
+after-nothing (none c) = ap none (add-zero c)
+
 -- ---- one call
 
 call-gives : (b : Bool) (m : ℕ) (o : Outcome) (m′ c : ℕ) → call b m o ≡ found m′ c →
@@ -73,6 +79,10 @@ unfolding call calls
 call-calls true m o B h = omega arith
 call-calls false m o B h = rw calls-plus (omega (arith, h refl))
 
+call-same : (b : Bool) (m : ℕ) (o p : Outcome) → (b ≡ false → o ≡ p) → call b m o ≡ call b m p
+call-same true m o p h = unfold call in refl
+call-same false m o p h = ap (call false m) (h refl)
+
 -- A call counts at least itself.
 call-some : (b : Bool) (m : ℕ) (o : Outcome) → 1 ≤ calls (call b m o)
 unfolding call calls
@@ -91,6 +101,21 @@ powers-suc k zero = rw (pow-zero, pow-suc, pow-zero) (omega arith)
 powers-suc k (suc r) =
     ap (λ (x : ℕ). x + k ^ suc (suc r)) (powers-suc k r)
     ∙ rw (pow-suc k (suc r), mul-add) (omega (arith, mul-comm k (k ^ suc r)))
+
+pub powers-none : (r : ℕ) → powers 0 r ≡ 1
+powers-none zero = powers-zero 0
+powers-none (suc r) = powers-suc 0 r ∙ rw zero-mul (add-zero 1)
+
+pub powers-one : (r : ℕ) → powers 1 r ≡ r + 1
+powers-one zero = powers-zero 1
+powers-one (suc r) = powers-suc 1 r ∙ rw (one-mul, powers-one r) (omega arith)
+
+-- with k at least 1 they are as many as with 1, or more
+pub powers-most : (k r : ℕ) → 1 ≤ k → r + 1 ≤ powers k r
+powers-most k zero h = rw powers-zero (le-refl 1)
+powers-most k (suc r) h =
+    let more : 1 * powers k r ≤ k * powers k r = mul-le-mul-right (powers k r) h in
+    rw powers-suc (omega (arith, one-mul (powers k r), powers-most k r h))
 
 -- ---- a list in order
 
@@ -112,12 +137,23 @@ module _ {A : Type 0} (s : A → Outcome) where
   try-hit (y ∷ ys) x i h =
       after-finds (s y) (try s ys) (⊎-elim (λ e. inl (rw e at h)) (λ i′. inr (try-hit ys x i′ h)) (List·Memᴰ·cases-cons i))
 
+  -- Two searches that agree on the elements agree on the list.
+  try-same : (s′ : A → Outcome) (xs : List A) → ((x : A) → In x xs → s x ≡ s′ x) → try s xs ≡ try s′ xs
+  unfolding try
+  try-same s′ [] h = refl
+  try-same s′ (x ∷ xs) h = ap₂ after (h x (List·Memᴰ·head refl)) (try-same s′ xs (λ y i. h y (List·Memᴰ·tail i)))
+
   pub try-calls : (B : ℕ) (xs : List A) → ((x : A) → In x xs → calls (s x) ≤ B) → calls (try s xs) ≤ length xs * B
   unfolding try calls
   try-calls B [] h = omega arith
   try-calls B (x ∷ xs) h =
       let below : calls (try s xs) ≤ length xs * B = try-calls B xs (λ y i. h y (List·Memᴰ·tail i)) in
       omega (arith, after-calls (s x) (try s xs), h x (List·Memᴰ·head refl))
+
+-- a list in which nothing stands
+none-in : {A : Type 0} (xs : List A) → ((x : A) → In x xs → ⊥) → xs ≡ []
+none-in [] h = refl
+none-in (x ∷ xs) h = absurd (h x (List·Memᴰ·head refl))
 
 -- ---- a tree
 
@@ -166,3 +202,16 @@ module _ {X L : Type 0} (t : Tree X L) where
       (λ e.
       let each = try-calls (λ l. explore t r (t .move x l)) (powers k r) (t .moves x) (λ l i. explore-calls k few r (t .move x l)) in
       le-trans each (mul-le-mul-right (powers k r) (few x e))))
+
+  -- Where no path has more than r moves, a larger depth changes nothing.
+  pub explore-room : (P : ℕ → X → Type 0) → ((x : X) (l : L) → P 0 x → t .goal x ≡ false → In l (t .moves x) → ⊥) →
+      ((r : ℕ) (x : X) (l : L) → P (suc r) x → t .goal x ≡ false → In l (t .moves x) → P r (t .move x l)) →
+      (r r′ : ℕ) → r ≤ r′ → (x : X) → P r x → explore t r′ x ≡ explore t r x
+  unfolding explore try
+  explore-room P ends keeps zero zero l x h = refl
+  explore-room P ends keeps (suc r) zero l x h = absurd (omega arith)
+  explore-room P ends keeps zero (suc r′) l x h =
+      call-same (t .goal x) (t .out x) _ _ (λ e. ap (try _) (none-in (t .moves x) (λ m i. ends x m h e i)))
+  explore-room P ends keeps (suc r) (suc r′) l x h =
+      call-same (t .goal x) (t .out x) _ _
+      (λ e. try-same _ _ (t .moves x) (λ m i. explore-room P ends keeps r r′ (le-of-suc-le-suc l) (t .move x m) (keeps r x m h e i)))

@@ -1,12 +1,14 @@
 -- What the trial of all assignments answers. A clause is two cells of a table: the bits of its positive and of its negative variables.
 use mathlib.Core.Path.{_≡_, refl}
-use mathlib.Core.Bool.{Bool, true, false, not, _&&_}
-use mathlib.Core.List.{List, _∷_}
-use Prim.Native.Nat.{ℕ, suc, _+_, _-_, _*_, _^_, _≤_, _<_}
+use mathlib.Core.Bool.{Bool, true, false, cond, not, _&&_}
+use mathlib.Core.List.{List, [], _∷_}
+use Prim.Native.Nat.{ℕ, suc, _+_, _-_, _*_, _%_, _^_, _≤_, _<_}
 use native.Mathlib.Omega.{arith}
 use lib.Bits.{bitAnd}
-use lib.Dec.{eqb}
+use lib.Count.{ones}
+use lib.Dec.{eqb, leb, lit<}
 use lib.ListN.{getD}
+use lib.Pow.{shl-exact}
 use Rattle.words.specs.Lists.{some, every, span}
 
 -- no positive variable is true, and every negative one is
@@ -24,6 +26,25 @@ meetsAll m table k = every (trueAt m table) (span 0 k)
 -- Some assignment of n variables does.
 unfoldable pub hasModel : ℕ → List ℕ → ℕ → Bool
 hasModel n table k = some (λ m. meetsAll m table k) (span 0 (2 ^ n))
+
+-- what the models among some assignments have in common with x
+unfoldable pub common : List ℕ → ℕ → ℕ → List ℕ → ℕ
+common table k x [] = x
+common table k x (m ∷ ms) = common table k (cond (meetsAll m table k) (bitAnd x m) x) ms
+
+-- The variables that are 1 in every model of n variables.
+unfoldable pub inAllModels : ℕ → List ℕ → ℕ → ℕ
+inAllModels n table k = common table k (2 ^ 32 - 1) (span 0 (2 ^ n))
+
+-- Each of the first k clauses has at most one positive variable.
+unfoldable pub everyHorn : List ℕ → ℕ → Bool
+everyHorn table k = every (λ i. leb (ones (getD table (2 * i) 0)) 1) (span 0 k)
+
+-- the machine's number of assignments is that of n variables
+pub all-assignments : (n : ℕ) → n ≤ 12 → 1 * 2 ^ n % 2 ^ 32 - 0 ≡ 2 ^ n
+all-assignments n h =
+    let whole : 1 * 2 ^ n % 2 ^ 32 ≡ 1 * 2 ^ n = shl-exact 1 n 32 (lit< tt) (omega arith) in
+    omega (arith, whole)
 
 -- ---- laws: a test over the numbers from i to n, one by one
 
@@ -57,3 +78,11 @@ module _ (p : ℕ → Bool) (i n : ℕ) (b : Bool) where
 
   pub every-end : every p (span i (n - i)) ≡ b → n ≤ i → true ≡ b
   every-end h l = rw (← h, span-end i n l) (unfold every span in refl)
+
+-- the same of what models have in common: the next number counts, or none is left
+module _ (table : List ℕ) (k x i n r : ℕ) (left : common table k x (span i (n - i)) ≡ r) where
+  pub common-next : i < n → common table k (cond (meetsAll i table k) (bitAnd x i) x) (span (i + 1) (n - (i + 1))) ≡ r
+  common-next l = rw (← left, span-cons i n l) (unfold common in refl)
+
+  pub common-end : n ≤ i → x ≡ r
+  common-end l = rw (← left, span-end i n l) (unfold common span in refl)

@@ -1,9 +1,11 @@
-// The trial of all assignments. A clause is two cells of a table: the bits of its positive and of
-// its negative variables.
+// The trial of all assignments, and whether clauses are Horn. A clause is two cells of a table: the
+// bits of its positive and of its negative variables.
 ghost use mathlib.Core.Path.{_≡_};
+ghost use mathlib.Core.Bool.{cond};
+ghost use lib.Bits.{bitAnd};
 ghost use Prim.Native.Nat.{_*_, _≤_};
 ghost use lib.ListN.{length};
-ghost use Rattle.trials.specs.Brute.{falsified, meetsAll, hasModel};
+ghost use Rattle.trials.specs.Brute.{falsified, meetsAll, hasModel, inAllModels, everyHorn};
 
 fn falsifies(assignment: u32, positive: u32, negative: u32) -> bool
     ensures { λ r. ⌜ r ≡ falsified assignment positive negative ⌝ }
@@ -40,4 +42,41 @@ pub fn has_model(n: u32, table: &[u32], k: usize) -> bool
         assignment += 1;
     }
     false
+}
+
+// The variables of `common` that are 1 in an assignment too, where it is a model.
+fn narrowed(common: u32, assignment: u32, model: bool) -> u32
+    ensures { λ r. ⌜ r ≡ cond model (bitAnd common assignment) common ⌝ }
+{
+    if model { common & assignment } else { common }
+}
+
+// The variables that are 1 in every model of n variables; all where there is no model.
+pub fn in_all_models(n: u32, table: &[u32], k: usize) -> u32
+    requires { ⌜ (n ≤ 12) × (2 * k ≤ length (now table)) ⌝ }
+    ensures { λ r. ⌜ r ≡ inAllModels n (now (table .entry)) k ⌝ }
+{
+    let assignments = 1u32 << n;
+    let mut common = 4294967295;
+    let mut assignment = 0;
+    while assignment < assignments {
+        common = narrowed(common, assignment, meets(assignment, table, k));
+        assignment += 1;
+    }
+    common
+}
+
+// Whether no clause has two positive variables.
+pub fn is_horn(table: &[u32], k: usize) -> bool
+    requires { ⌜ 2 * k ≤ length (now table) ⌝ }
+    ensures { λ r. ⌜ r ≡ everyHorn (now (table .entry)) k ⌝ }
+{
+    let mut i = 0;
+    while i < k {
+        if 1 < u32::count_ones(table[2 * i]) {
+            return false;
+        }
+        i += 1;
+    }
+    true
 }

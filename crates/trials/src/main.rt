@@ -1,12 +1,15 @@
-// Trials of the engine on generated sheets: n 0 to 12, clauses of 0 to 8 literals, every plan, and
-// budgets below, at and above the calls needed. Each answer is compared with a trial of all
-// assignments that shares nothing with the search. It prints every run that disagrees, and counts.
+// Trials of the engine on generated sheets: n 0 to 12, clauses of 0 to 8 literals, half of the
+// sheets Horn or nearly so, every plan, and budgets below, at and above the calls needed. Each
+// answer is compared with a trial of all assignments that shares nothing with the search: also the
+// least model of a Horn sheet. It prints every run that disagrees, and counts.
 // The counts record how many sheets of each kind the fixed generator makes; that no run disagrees
 // is what is tested.
 mod brute;
 mod sheets;
 
 use brute::has_model;
+use brute::in_all_models;
+use brute::is_horn;
 use brute::meets;
 use engine::Reply;
 use libc::STDOUT_FILENO;
@@ -18,7 +21,7 @@ ghost use Prim.Native.Nat.{_*_, _≤_};
 ghost use lib.ListN.{length};
 ghost use Rattle.trials.specs.Bounds.{Bounded, Roomy};
 
-const SHEETS: u32 = 30000;
+const SHEETS: u32 = 60000;
 // Enough for most sheets; the others are spent.
 const BUDGET: u32 = 10000;
 
@@ -33,11 +36,15 @@ struct Case {
     n: u32,
     clauses: usize,
     model: bool,
+    horn: bool,
+    least: u32,
 }
 
-// How many sheets agreed, by verdict; how many runs with another budget agreed; and how many runs
-// did not.
+// How many sheets agreed, by road and verdict (Horn sheets are never spent here); how many runs with
+// another budget agreed; and how many runs did not.
 struct Counts {
+    horn_clear: u64,
+    horn_none: u64,
     clear: u64,
     none: u64,
     spent: u64,
@@ -58,6 +65,8 @@ fn more(count: u64) -> u64 {
 impl Counts {
     fn zero() -> Counts {
         Counts {
+            horn_clear: 0,
+            horn_none: 0,
             clear: 0,
             none: 0,
             spent: 0,
@@ -66,8 +75,12 @@ impl Counts {
         }
     }
 
-    fn with_verdict(mut self, verdict: u32) -> Counts {
-        if verdict == engine::CLEAR {
+    fn with_verdict(mut self, horn: bool, verdict: u32) -> Counts {
+        if horn && verdict == engine::CLEAR {
+            self.horn_clear = more(self.horn_clear);
+        } else if horn {
+            self.horn_none = more(self.horn_none);
+        } else if verdict == engine::CLEAR {
             self.clear = more(self.clear);
         } else if verdict == engine::NONE {
             self.none = more(self.none);
@@ -94,9 +107,11 @@ fn print_number(name: &[u8], n: u64) {
 }
 
 fn print_counts(counts: Counts) {
-    print_number(b"clear ", counts.clear);
-    print_number(b"\nnone ", counts.none);
-    print_number(b"\nspent ", counts.spent);
+    print_number(b"horn clear ", counts.horn_clear);
+    print_number(b"\nhorn none ", counts.horn_none);
+    print_number(b"\nball clear ", counts.clear);
+    print_number(b"\nball none ", counts.none);
+    print_number(b"\nball spent ", counts.spent);
     print_number(b"\nbudgets ", counts.budgets);
     print_number(b"\ndisagreements ", counts.disagreements);
     io::write_all(STDOUT_FILENO, b"\n");
@@ -109,6 +124,7 @@ fn print_pair(name: &[u8], a: u32, other: &[u8], b: u32) {
 
 fn print_reply(reply: Reply) {
     print_pair(b" verdict ", reply.verdict, b" batch ", reply.batch);
+    print_number(b" road ", reply.road as u64);
     print_pair(b" marks ", reply.marks0, b" ", reply.marks1);
     print_pair(b" ", reply.marks2, b" ", reply.marks3);
     print_number(b" calls ", reply.calls as u64);
@@ -127,6 +143,7 @@ fn report(case: Case, budget: u32, reply: Reply, counts: Counts) -> Counts {
 fn same(a: Reply, b: Reply) -> bool {
     a.verdict == b.verdict
         && a.batch == b.batch
+        && a.road == b.road
         && a.marks0 == b.marks0
         && a.marks1 == b.marks1
         && a.marks2 == b.marks2
@@ -137,10 +154,15 @@ fn same(a: Reply, b: Reply) -> bool {
 }
 
 // The sheets have so few variables that an assignment is its first word.
-fn counted(verdict: u32, batch: u32, marks: u32, calls: u32) -> Reply {
+fn counted(verdict: u32, case: Case, marks: u32, calls: u32) -> Reply {
     Reply {
         verdict,
-        batch,
+        batch: case.batch,
+        road: if case.horn {
+            engine::HORN
+        } else {
+            engine::BALLS
+        },
         marks0: marks,
         marks1: 0,
         marks2: 0,
@@ -153,12 +175,14 @@ fn counted(verdict: u32, batch: u32, marks: u32, calls: u32) -> Reply {
 
 // The right answer to a first run that has these marks and calls.
 fn expected(case: Case, reply: Reply) -> Reply {
-    if reply.verdict == engine::SPENT {
-        counted(engine::SPENT, case.batch, 0, BUDGET)
+    if reply.verdict == engine::SPENT && !case.horn {
+        counted(engine::SPENT, case, 0, BUDGET)
+    } else if case.model && case.horn {
+        counted(engine::CLEAR, case, case.least, reply.calls)
     } else if case.model {
-        counted(engine::CLEAR, case.batch, reply.marks0, reply.calls)
+        counted(engine::CLEAR, case, reply.marks0, reply.calls)
     } else {
-        counted(engine::NONE, case.batch, 0, reply.calls)
+        counted(engine::NONE, case, 0, reply.calls)
     }
 }
 
@@ -169,7 +193,8 @@ fn agrees(case: Case, reply: Reply, table: &[u32]) -> bool
     if !same(reply, expected(case, reply)) {
         return false;
     }
-    if reply.calls == 0 || BUDGET < reply.calls {
+    let most = if case.horn { case.n + 1 } else { BUDGET };
+    if reply.calls == 0 || most < reply.calls {
         return false;
     }
     if reply.verdict != engine::CLEAR {
@@ -191,7 +216,7 @@ fn run_again(sheet: &[u8], case: Case, budget: u32, answer: Reply, counts: Count
 fn run_around(sheet: &[u8], case: Case, reply: Reply, counts: Counts) -> Counts {
     let calls = reply.calls;
     let less = std::num::wrapping_sub_u32(calls, 1);
-    let spent = counted(engine::SPENT, case.batch, 0, less);
+    let spent = counted(engine::SPENT, case, 0, less);
     let below = run_again(sheet, case, less, spent, counts);
     let at = run_again(sheet, case, calls, reply, below);
     run_again(sheet, case, LARGEST_BUDGET, reply, at)
@@ -205,7 +230,7 @@ fn run_case(sheet: &[u8], table: &[u32], case: Case, counts: Counts) -> Counts
     if !agrees(case, reply, table) {
         return report(case, BUDGET, reply, counts);
     }
-    let seen = counts.with_verdict(reply.verdict);
+    let seen = counts.with_verdict(case.horn, reply.verdict);
     if reply.verdict == engine::SPENT {
         return seen;
     }
@@ -227,15 +252,17 @@ fn try_drawn(
 {
     let n = shape.n;
     let clauses = shape.clauses as usize;
-    let size = 1 + number % 12;
+    let size = 1 + number / 4 % 12;
     let case = Case {
         number,
         size,
-        radius: number / 12 % (size + 1),
+        radius: number / 48 % (size + 1),
         batch: shape.batch,
         n,
         clauses,
         model: has_model(n, table, clauses),
+        horn: is_horn(table, clauses),
+        least: in_all_models(n, table, clauses),
     };
     run_case(&sheet[0..end], table, case, counts)
 }
@@ -246,7 +273,7 @@ fn try_sheet(sheet: &mut [u8], table: &mut [u32], number: u32, trial: Trial) -> 
 {
     let random = trial.random;
     let counts = trial.counts;
-    let shape = draw_shape(random);
+    let shape = draw_shape(random, number);
     let draft = draw_sheet(sheet, table, shape);
     let next = draft.random;
     Trial {

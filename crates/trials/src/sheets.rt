@@ -41,9 +41,12 @@ fn either(first: bool, a: Random, b: Random) -> Random {
     if first { a } else { b }
 }
 
-// What is drawn for a sheet before its clauses.
+// What is drawn for a sheet before its clauses. Where it is Horn, its clauses have at most one
+// positive literal, but for the clause `other`.
 pub struct Shape {
     pub random: Random,
+    pub horn: bool,
+    pub other: u32,
     pub batch: u32,
     pub n: u32,
     pub shortest: u32,
@@ -59,9 +62,11 @@ pub struct Draft {
     pub at: usize,
 }
 
-// A clause in the making: its variables by sign, and their number.
+// A clause in the making: its variables by sign, and their number. Where it is Horn, all variables
+// after a positive one are negative.
 struct Clause {
     random: Random,
+    horn: bool,
     positive: u32,
     negative: u32,
     length: u32,
@@ -82,7 +87,9 @@ fn room(n: u32, shortest: u32) -> u32
     if many < 1024 { many + 2 } else { 1025 }
 }
 
-pub fn draw_shape(random: Random) -> Shape
+// Of four sheets two are drawn freely, one is Horn, and one is Horn but for a clause. Those two may
+// have clauses of one literal: without a positive one the assignment 0 meets all.
+pub fn draw_shape(random: Random, number: u32) -> Shape
     ensures { λ r. ⌜ Bounded r ⌝ }
 {
     let a = random.next();
@@ -92,12 +99,20 @@ pub fn draw_shape(random: Random) -> Shape
     let e = d.next();
     let f = e.next();
     let g = f.next();
+    let h = g.next();
+    let horn = number % 2 == 1;
     let n = least(a.below(13), b.below(9) + 4);
-    let shortest = least(c.below(8) + 1, d.below(9));
+    let shortest = least(if horn { 1 } else { c.below(8) + 1 }, d.below(9));
     let longest = shortest + e.below(9 - shortest);
     let clauses = f.below(room(n, shortest));
     Shape {
-        random: g,
+        random: h,
+        horn,
+        other: if number % 4 == 1 {
+            clauses
+        } else {
+            h.below(clauses + 1)
+        },
         batch: g.number(),
         n,
         shortest,
@@ -127,6 +142,16 @@ impl Clause {
         requires { ⌜ v < 32 ⌝ }
     {
         ((self.positive | self.negative) >> v) % 2 == 1
+    }
+
+    // The sign of the next literal.
+    fn sign(self, random: Random) -> u32
+        ensures { λ r. ⌜ r ≤ 1 ⌝ }
+    {
+        if self.horn && self.positive != 0 {
+            return 1;
+        }
+        (random.state % 2) as u32
     }
 
     // One variable more, by its bit: negative where the sign is 1.
@@ -161,18 +186,19 @@ fn with_literal(sheet: &mut [u8], at: usize, n: u32, most: u32, mut clause: Clau
     if clause.has(v) {
         return clause;
     }
-    let sign = (random.state % 2) as u32;
+    let sign = clause.sign(random);
     put_word(sheet, at + 4 + 4 * length as usize, 2 * v + 2 + sign);
     clause.with_variable(v, sign)
 }
 
 // A clause of at most `most` literals, written to the sheet.
-fn draw_clause(sheet: &mut [u8], at: usize, n: u32, most: u32, random: Random) -> Clause
+fn draw_clause(sheet: &mut [u8], at: usize, n: u32, most: u32, horn: bool, random: Random) -> Clause
     requires { ⌜ (n ≤ 12) × (most ≤ n) × (most ≤ 8) × (at + 35 < length (now sheet)) ⌝ }
     ensures { λ r. ⌜ r .length ≤ 8 ⌝ }
 {
     let mut clause = Clause {
         random,
+        horn,
         positive: 0,
         negative: 0,
         length: 0,
@@ -216,7 +242,8 @@ fn add_clause(sheet: &mut [u8], table: &mut [u32], i: usize, shape: Shape, draft
     let choice = next.below(8);
     let from = either(choice == 0, again, next);
     let at = draft.at;
-    let clause = draw_clause(sheet, at, shape.n, draw_length(shape, from), from);
+    let horn = shape.horn && i != shape.other as usize;
+    let clause = draw_clause(sheet, at, shape.n, draw_length(shape, from), horn, from);
     let end = at + 4 + 4 * clause.length as usize;
     put_clause(table, i, clause);
     let after = clause.random;

@@ -1,13 +1,13 @@
 -- The laws of bits: toggling changes that bit and no other; distance counts the bits that differ; distances of blocks add up.
 use mathlib.Core.Path.{_≡_, refl, sym, ap, ap₂, _∙_}
 use mathlib.Core.Bool.{Bool, true, false, cond, not, xor, _&&_, _||_, true≢false, Bool·not-not}
-use Prim.Native.Nat.{ℕ, zero, suc, _+_, _-_, _*_, _/_, _%_, _^_, _<_, suc-le-suc, min, max}
+use Prim.Native.Nat.{ℕ, zero, suc, _+_, _-_, _*_, _/_, _%_, _^_, _≤_, _<_, suc-le-suc, min, max}
 use native.Mathlib.Nat.{add-suc, suc-inj, div-lt-iff-lt-mul, div-eq-of-lt, pow-suc, div-one, one-mul, zero-div, mod-lt, mul-mod-left, mul-div-cancel, mul-add-mod-self-right, not-suc-le-zero, le-of-suc-le-suc}
 use native.Mathlib.Numerals.{one-add}
 use native.Mathlib.Omega.{arith}
 use lib.Dec.{eqb, lit<, eqb·zero-suc, eqb·suc-zero, eqb·suc-suc}
-use lib.Bits.{bitAnd, bitOr, bitXor, differ, and-step, or-step, xor-step, and-shr, or-shr, xor-shr, xor-self, xor-lt, xor-block}
-use lib.Count.{trailingZeros, under, ones, ones-step, ones-cat}
+use lib.Bits.{bitAnd, bitOr, bitXor, differ, and-step, or-step, xor-step, and-shr, or-shr, xor-shr, xor-self, xor-comm, xor-lt, xor-block}
+use lib.Count.{trailingZeros, under, ones, ones-step, ones-cat, ones-le}
 use lib.Pow.{pow-lt, shl-exact, shr-shr}
 use borrow.Author.Tests.{eq-eqb, ne-eqb, eqb-true, eqb-false}
 use Rattle.words.specs.Bits.{bit, toggle, distance}
@@ -241,6 +241,11 @@ count-less (suc n) (suc v) p q l e f h =
     count-less n v (λ w. p (suc w)) (λ w. q (suc w)) (le-of-suc-le-suc l) e f (λ w d. h (suc w) (λ z. d (suc-inj z))) in
     rw (h 0 (λ z. let z′ : suc v ≡ 0 = z in omega arith), below) (add-suc _ _)
 
+count-all : (n : ℕ) → count n (λ v. true) ≡ n
+unfolding count
+count-all zero = refl
+count-all (suc n) = ap (λ (x : ℕ). 1 + x) (count-all n) ∙ one-add n
+
 count-none : (n : ℕ) (p : ℕ → Bool) → count n p ≡ 0 → (v : ℕ) → v < n → p v ≡ false
 unfolding count
 count-none zero p e v l = absurd (not-suc-le-zero l)
@@ -274,6 +279,27 @@ distance-count n a b p q = ones-count n (bitXor a b) (xor-lt n a b p q) ∙ coun
 pub distance-self : (a : ℕ) → distance a a ≡ 0
 unfolding distance
 distance-self a = rw xor-self ones-zero
+
+pub distance-comm : (a b : ℕ) → distance a b ≡ distance b a
+unfolding distance
+distance-comm a b = ap ones (xor-comm a b)
+
+-- Numbers of n bits differ in at most n,
+pub distance-most : (n a b : ℕ) → a < 2 ^ n → b < 2 ^ n → distance a b ≤ n
+unfolding distance
+distance-most n a b p q = ones-le n (bitXor a b) (xor-lt n a b p q)
+
+-- and in all of them where each bit of one is opposite to the other's.
+pub distance-opposite : (n a : ℕ) → a < 2 ^ n → distance (2 ^ n - 1 - a) a ≡ n
+unfolding xor
+distance-opposite n a h =
+    distance-count n (2 ^ n - 1 - a) a (omega arith) h
+    ∙ count-same n _ (λ v. true) (λ v l. ap (λ (b : Bool). xor b (bit a v)) (bit-not n a v h l) ∙ opposite (bit a v))
+    ∙ count-all n
+  where
+    opposite : (b : Bool) → xor (not b) b ≡ true
+    opposite true = refl
+    opposite false = refl
 
 -- Distances of blocks add up.
 pub distance-blocks : (k a b r s : ℕ) → r < 2 ^ k → s < 2 ^ k →

@@ -1,10 +1,13 @@
 -- `numbers` meets its contract, variant by variant.
 use mathlib.Core.Path.{_∙_}
 use borrow.Author.Needs.{needs}
-use Rattle.engine.specs.Answers.{numbersOf}
+use Rattle.engine.specs.Answers.{numbersOf, replyOf}
 use Rattle.engine.specs.Machine.{verdictIn, decisionIn}
 use Rattle.engine.proofs.numbers.Statement.{statement}
 use Rattle.engine.proofs.numbers.Tie as tie
+
+method-number-requires : tie.Need-method-number-requires
+method-number-requires c κs = search needs
 
 zero-requires : tie.Need-zero-requires
 zero-requires c κs = search needs
@@ -34,25 +37,26 @@ declined-requires : tie.Need-declined-requires
 declined-requires c κs = search needs
 
 returns : tie.Need-returns
-unfolding numbersOf decisionIn verdictIn
-returns c = c .counted .ensures ∙ rw (c .before .before .verdict .given .1)
+unfolding replyOf numbersOf decisionIn verdictIn
+returns c = c .counted .ensures ∙ rw (c .before .before .verdict .given .1, c .before .before .before .before .before .method-number .ensures)
 
 returns-2 : tie.Need-returns-2
-unfolding numbersOf decisionIn verdictIn
-returns-2 c = c .counted2 .ensures ∙ rw (c .before .before .verdict2 .given .1, c .before .before .before .before .zero .ensures)
+unfolding replyOf numbersOf decisionIn verdictIn
+returns-2 c = c .counted2 .ensures ∙ rw (c .before .before .verdict2 .given .1, c .before .before .before .before .zero .ensures, c .before .before .before .before .before .method-number .ensures)
 
 returns-3 : tie.Need-returns-3
-unfolding numbersOf decisionIn verdictIn
-returns-3 c = c .counted3 .ensures ∙ rw (c .before .before .verdict3 .given .1, c .before .before .before .before .zero .ensures)
+unfolding replyOf numbersOf decisionIn verdictIn
+returns-3 c = c .counted3 .ensures ∙ rw (c .before .before .verdict3 .given .1, c .before .before .before .before .zero .ensures, c .before .before .before .before .before .method-number .ensures)
 
 returns-4 : tie.Need-returns-4
-unfolding numbersOf decisionIn verdictIn
+unfolding replyOf numbersOf decisionIn verdictIn
 returns-4 c = c .declined .ensures ∙ rw (c .before .before .verdict4 .given .1)
 
 pub numbers-spec : {M : Type 1} → statement M
 numbers-spec =
     tie.close
     (tie.spec
+    method-number-requires
     zero-requires
     enum-known-verdict
     counted-requires

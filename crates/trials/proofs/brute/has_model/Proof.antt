@@ -1,11 +1,9 @@
 -- `has_model` meets its contract: before each turn, whether there is a model depends on the assignments from this one on.
-use Prim.Native.Nat.{_≤_, _-_, _*_, _%_, _^_, zero-le}
+use Prim.Native.Nat.{_≤_, _-_, zero-le}
 use mathlib.Core.Path.{_≡_, refl, sym, _∙_}
 use native.Mathlib.Omega.{arith}
-use lib.Dec.{lit<}
-use lib.Pow.{shl-exact}
 use Rattle.words.specs.Lists.{some, span}
-use Rattle.trials.specs.Brute.{meetsAll, hasModel, some-here, some-next, some-end}
+use Rattle.trials.specs.Brute.{meetsAll, hasModel, all-assignments, some-here, some-next, some-end}
 use borrow.Author.Needs.{needs}
 use Rattle.trials.proofs.brute.has_model.Statement.{statement}
 use Rattle.trials.proofs.brute.has_model.Tie as tie
@@ -23,11 +21,7 @@ shl-assignments c = search needs
 
 loop-holds : tie.Need-loop-holds Inv-loop μ-loop
 unfolding hasModel
-loop-holds c =
-    let n = c .before .args .n in
-    let whole : 1 * 2 ^ n % 2 ^ 32 ≡ 1 * 2 ^ n = shl-exact 1 n 32 (lit< tt) (omega arith) in
-    let all : 1 * 2 ^ n % 4294967296 - 0 ≡ 2 ^ n = omega (arith, whole) in
-    (zero-le, rw all refl)
+loop-holds c = let s = c .before in (zero-le, rw (all-assignments (s .args .n) (s .pre .0)) refl)
 
 meets-requires : tie.Need-meets-requires Inv-loop μ-loop
 meets-requires c κs = search needs

@@ -7,10 +7,10 @@ use Rattle.trials.proofs.sheets.draw_clause.Statement.{statement}
 use Rattle.trials.proofs.sheets.draw_clause.Tie as tie
 
 abbrev Inv-loop : tie.InvT-loop
-Inv-loop sheet₀ at n most clause₀ draws₀ sheet clause draws = (clause .length ≤ most) × (length sheet ≡ length sheet₀)
+Inv-loop sheet₀ at n most horn clause₀ draws₀ sheet clause draws = (clause .length ≤ most) × (length sheet ≡ length sheet₀)
 
 abbrev μ-loop : tie.MeasureT-loop
-μ-loop sheet₀ at n most clause₀ draws₀ sheet clause draws = draws
+μ-loop sheet₀ at n most horn clause₀ draws₀ sheet clause draws = draws
 
 loop-holds : tie.Need-loop-holds Inv-loop μ-loop
 loop-holds c = search needs
