@@ -49,13 +49,13 @@ unfoldable pub judged : Plan → ℕ → Formula → Decision
 judged p A f = record { batch = f .batch; method = methodOf f; verdict = answered (answer A (outcome p f)) }
 
 -- a formula that was read is decided, and a refusal of the sheet passed on
-unfoldable pub decided : Plan → ℕ → Result Formula → Decision
-decided p A (accepted f) = judged p A f
-decided p A (Result.refused number place) = refusal number place
+unfoldable pub decided : (Formula → Decision) → Result Formula → Decision
+decided judge (accepted f) = judge f
+decided judge (Result.refused number place) = refusal number place
 
 -- The decision on a plan, a budget and the bytes of a sheet: the plan's refusal goes first, then the sheet's.
 unfoldable pub decision : Plan → ℕ → List ℕ → Decision
-decision p A s = cond (coded? (p .size) (p .radius)) (decided p A (parse s)) (refusal BAD-PLAN 0)
+decision p A s = cond (coded? (p .size) (p .radius)) (decided (judged p A) (parse s)) (refusal BAD-PLAN 0)
 
 -- ---- the numbers of a decision, as a host in C has them
 

@@ -178,12 +178,12 @@ reply-answered p A s = by-plan (coded? (p .size) (p .radius)) refl
     by-answer f h (Budget.Answer.none c) = unfold numbersOf in is-none h
     by-answer f h (Budget.spent c) = unfold numbersOf in is-spent h
 
-    by-sheet : coded? (p .size) (p .radius) ≡ true → (r : Result Formula) → parse s ≡ r → Answered p s (replyOf (decided p A r))
+    by-sheet : coded? (p .size) (p .radius) ≡ true → (r : Result Formula) → parse s ≡ r → Answered p s (replyOf (decided (judged p A) r))
     by-sheet h (accepted f) e = unfold decided judged in by-answer f (record { plan = h; sheet = e }) (answer A (outcome p f))
     by-sheet h (Result.refused number place) e = unfold decided refusal numbersOf in bad-sheet h (parse-refused s number place e)
 
     by-plan : (b : Bool) → coded? (p .size) (p .radius) ≡ b →
-        Answered p s (replyOf (cond b (decided p A (parse s)) (refusal BAD-PLAN 0)))
+        Answered p s (replyOf (cond b (decided (judged p A) (parse s)) (refusal BAD-PLAN 0)))
     by-plan true h = by-sheet h (parse s) refl
     by-plan false h = unfold refusal numbersOf in bad-plan h
 
@@ -225,13 +225,42 @@ pub reply-stays : (p : Plan) (A B : ℕ) (s : List ℕ) → A ≤ B → (replyTo
 unfolding replyTo replyOf decision decided judged
 reply-stays p A B s l h = by-plan (coded? (p .size) (p .radius)) (parse s) h
   where
-    by-plan : (b : Bool) (r : Result Formula) → (replyOf (cond b (decided p A r) (refusal BAD-PLAN 0)) .verdict ≡ SPENT → ⊥) →
-        replyOf (cond b (decided p B r) (refusal BAD-PLAN 0)) ≡ replyOf (cond b (decided p A r) (refusal BAD-PLAN 0))
+    by-plan : (b : Bool) (r : Result Formula) → (replyOf (cond b (decided (judged p A) r) (refusal BAD-PLAN 0)) .verdict ≡ SPENT → ⊥) →
+        replyOf (cond b (decided (judged p B) r) (refusal BAD-PLAN 0)) ≡ replyOf (cond b (decided (judged p A) r) (refusal BAD-PLAN 0))
     by-plan false r g = refl
     by-plan true (Result.refused number place) g = refl
     by-plan true (accepted f) g =
         let stays = answer-stays (outcome p f) A B l (λ x. g (spent-number (f .batch) (decidedBy f) _ .1 x)) in
         ap (λ (a : Budget.Answer). numbersOf (f .batch) (decidedBy f) (answered a)) stays
+
+-- after a none, the answer of a search of as many variables and at least the same clauses, whichever the two searches are
+pub numbers-further : {n m : ℕ} {cs ds : List Clause} {o p : Outcome} (A B b road b′ road′ : ℕ) → Decides n cs o → Decides m ds p → n ≡ m →
+    stands cs ds ≡ true → numbersOf b road (answered (answer A o)) .verdict ≡ NONE →
+    let v = numbersOf b′ road′ (answered (answer B p)) .verdict in
+    (v ≡ CLEAR → ⊥) × ((v ≡ SPENT → ⊥) → v ≡ NONE)
+numbers-further {n} {m} {cs} {ds} {o} {p} A B b road b′ road′ first second same st e =
+    let here = subst (λ (n : ℕ). Decides n cs o) same first in
+    let d = further-none m cs ds o p here second st A B (none-number b road _ .0 e) in (
+      λ x. d .0 (clear-number b′ road′ _ .0 x),
+      λ y. none-number b′ road′ _ .1 (d .1 (λ z. y (spent-number b′ road′ _ .1 z))),
+    )
+
+-- and a run of such a sheet, by any plan
+pub run-further : {n : ℕ} {cs : List Clause} {o : Outcome} (A b road : ℕ) → Decides n cs o →
+    numbersOf b road (answered (answer A o)) .verdict ≡ NONE →
+    (p : Plan) (B : ℕ) (s : List ℕ) (g : Formula) → parse s ≡ accepted g → n ≡ g .n → stands cs (g .clauses) ≡ true →
+    let v = replyTo p B s .verdict in
+    (v ≡ CLEAR → ⊥) × ((v ≡ REFUSED → ⊥) → (v ≡ SPENT → ⊥) → v ≡ NONE)
+run-further A b road decides none p B s g e same st = by-plan (coded? (p .size) (p .radius)) refl
+  where
+    by-plan : (t : Bool) → coded? (p .size) (p .radius) ≡ t →
+        let v = replyTo p B s .verdict in
+        (v ≡ CLEAR → ⊥) × ((v ≡ REFUSED → ⊥) → (v ≡ SPENT → ⊥) → v ≡ NONE)
+    by-plan false q = let r = reply-bad-plan p B s q in (λ x. omega arith, λ x y. absurd (x r))
+    by-plan true q =
+        let there = outcome-decides p g (parse-well-formed s g e) in
+        let d = numbers-further A B b road (g .batch) (decidedBy g) decides there same st none in
+        rw (reply-accepted p B s g (record { plan = q; sheet = e })) (d .0, λ x y. d .1 y)
 
 -- after a none, a sheet with as many variables and at least the same clauses, by any plan
 pub none-further : (p : Plan) (A : ℕ) (s : List ℕ) (f : Formula) → Accepted p s f → replyTo p A s .verdict ≡ NONE →
@@ -239,19 +268,5 @@ pub none-further : (p : Plan) (A : ℕ) (s : List ℕ) (f : Formula) → Accepte
     f .n ≡ g .n → stands (f .clauses) (g .clauses) ≡ true →
     let v = replyTo p′ B s′ .verdict in
     (v ≡ CLEAR → ⊥) × ((v ≡ REFUSED → ⊥) → (v ≡ SPENT → ⊥) → v ≡ NONE)
-none-further p A s f h n p′ B s′ g e same st = by-plan (coded? (p′ .size) (p′ .radius)) refl
-  where
-    by-plan : (b : Bool) → coded? (p′ .size) (p′ .radius) ≡ b →
-        let v = replyTo p′ B s′ .verdict in
-        (v ≡ CLEAR → ⊥) × ((v ≡ REFUSED → ⊥) → (v ≡ SPENT → ⊥) → v ≡ NONE)
-    by-plan false q = let r = reply-bad-plan p′ B s′ q in (λ x. omega arith, λ x y. absurd (x r))
-    by-plan true q =
-        let is-none = none-number (f .batch) (decidedBy f) _ .0 (rw (reply-accepted p A s f h) at n) in
-        let decides = outcome-decides p f (parse-well-formed s f (h .sheet)) in
-        let here = subst (λ (n : ℕ). Decides n (f .clauses) (outcome p f)) same decides in
-        let there = outcome-decides p′ g (parse-well-formed s′ g e) in
-        let d = further-none (g .n) (f .clauses) (g .clauses) _ _ here there st A B is-none in
-        rw (reply-accepted p′ B s′ g (record { plan = q; sheet = e })) (
-          λ x. d .0 (clear-number (g .batch) (decidedBy g) _ .0 x),
-          λ x y. none-number (g .batch) (decidedBy g) _ .1 (d .1 (λ z. y (spent-number (g .batch) (decidedBy g) _ .1 z))),
-        )
+none-further p A s f h n =
+    run-further A (f .batch) (decidedBy f) (outcome-decides p f (parse-well-formed s f (h .sheet))) (rw (reply-accepted p A s f h) at n)

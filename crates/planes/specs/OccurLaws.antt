@@ -120,7 +120,7 @@ marked-more i x c xs ys row room size m =
     joins : (b y z e : Bool) → ((b || (y && e)) || (z && e)) ≡ (b || ((y || z) && e))
     joins b y z e = or-assoc b (y && e) (z && e) ∙ ap (λ (t : Bool). b || t) (sym (and-or-distrib-right y z e))
 
-zeros-at : (n a : ℕ) → _≡_ {A = ℕ} (getD (replicate n 0) a 0) 0
+pub zeros-at : (n a : ℕ) → _≡_ {A = ℕ} (getD (replicate n 0) a 0) 0
 zeros-at zero a = refl
 zeros-at (suc n) zero = refl
 zeros-at (suc n) (suc a) = zeros-at n a

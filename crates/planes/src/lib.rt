@@ -17,7 +17,7 @@ ghost use Rattle.planes.specs.Machine.{lanes, rowWords, laneCount, rowCo
 
 // The sizes of specs/Machine.antt: lanes of a word and of two words, words of a row, cells of the
 // occurrence table, slots of two counters, and cells of an array of planes.
-const LANES: usize = 64;
+pub const LANES: usize = 64;
 
 const PAIR: usize = 2 * LANES;
 
@@ -179,7 +179,7 @@ pub fn occurrences(cells: &[u32; formula::CELLS], k: usize) -> [u64; OCCURRENCES
 }
 
 // The lanes of word w from number k on.
-fn past(k: usize, w: usize) -> u64
+pub fn past(k: usize, w: usize) -> u64
     requires { ⌜ lanes * w ≤ k ⌝ }
     ensures { λ r. ⌜ ((j : ℕ) → j < lanes → bit r j ≡ leb k (lanes * w + j)) ⌝ }
 {

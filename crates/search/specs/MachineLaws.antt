@@ -1,6 +1,5 @@
 -- The laws that the machine's calls cite, one for each way through a call and through its literals.
-use mathlib.Core.Path.{_≡_, refl, sym, ap, _∙_, subst}
-use mathlib.Core.Logic.{⊎-elim}
+use mathlib.Core.Path.{_≡_, refl, sym, ap, _∙_}
 use mathlib.Core.Bool.{Bool, true, false, not, _&&_}
 use mathlib.Core.List.{List, [], _∷_}
 use Prim.Native.Nat.{ℕ, _+_, _-_, _≤_, _<_}
@@ -23,7 +22,7 @@ use Rattle.tree.proofs.Found.{the-type}
 use Rattle.tree.specs.declared.Found.the-variants.{Clear, None, Spent}
 use Rattle.tree.specs.Explore.{try}
 use Rattle.tree.specs.Budget.{Answer, clear, spent}
-use Rattle.tree.specs.BudgetLaws.{settle, onward, settle-none, settle-nil, settle-cons, onward-none, onward-stops, none-made}
+use Rattle.tree.specs.BudgetLaws.{settle, onward, settle-none, settle-nil, settle-cons, onward-none, onward-stops, none-made, tag-none}
 use Rattle.tree.specs.Machine.{answerIn}
 use Rattle.search.specs.Ball.{State, isFlipped, isTrue, isDead, flip, isTried, tried, skip, rule}
 use Rattle.search.specs.ReadingLaws.{false-unmet}
@@ -92,9 +91,7 @@ module _ (k : ℕ) (cells : List ℕ) (left : ℕ) (s : State) (A c : ℕ) where
 
 -- an answer with the tag of clear or of spent is not none
 pub not-none : (r : Found) → OneOf (0 ∷ 2 ∷ []) (tagOf the-type r) → (made : ℕ) → r ≡ None made → ⊥
-not-none r tag made e =
-    let none : OneOf (0 ∷ 2 ∷ []) 1 = subst (λ (x : Found). OneOf (0 ∷ 2 ∷ []) (tagOf the-type x)) e tag in
-    ⊎-elim (λ (z : 1 ≡ 0). omega arith) (λ (z : 1 ≡ 2). omega arith) none
+not-none = tag-none (tagOf the-type) (λ made. refl)
 
 module _ {k : ℕ} {cells occ planes : List ℕ} {s : State} {b clause j left calls budget : ℕ}
     (t : Trying k cells occ planes s b clause j left calls budget) where

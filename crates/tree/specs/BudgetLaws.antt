@@ -8,6 +8,7 @@ use native.Mathlib.Nat.{add-zero, zero-add, add-assoc, sub-eq-zero-of-le}
 use native.Mathlib.Numerals.{sub-one, add-one}
 use native.Mathlib.Omega.{arith}
 use lib.Dec.{leb}
+use types.Run.{OneOf}
 use borrow.Author.Tests.{leb-true, leb-false, le-leb, lt-leb}
 use Rattle.words.specs.Lists.{span}
 use Rattle.words.specs.ListLaws.{apart}
@@ -204,6 +205,13 @@ unfolding answerIn
 onward-stops (Clear a d) next h = refl
 onward-stops (None d) next h = absurd (h d refl)
 onward-stops (Spent d) next h = refl
+
+-- an answer with the tag of clear or of spent is not none, whose tag is 1
+pub tag-none : (tag : Found → ℕ) → ((made : ℕ) → tag (None made) ≡ 1) → (r : Found) → OneOf (0 ∷ 2 ∷ []) (tag r) →
+    (made : ℕ) → r ≡ None made → ⊥
+tag-none tag one r other made e =
+    let none : OneOf (0 ∷ 2 ∷ []) 1 = rw (ap tag e ∙ one made) at other in
+    ⊎-elim (λ (z : 1 ≡ 0). omega arith) (λ (z : 1 ≡ 2). omega arith) none
 
 -- none counts the calls, within the budget
 pub none-made : (r : Found) (A c made : ℕ) (o : Outcome) → answerIn r ≡ settle A c o → r ≡ None made →

@@ -5,6 +5,7 @@ use mathlib.Core.Bool.{Bool, true, false}
 use mathlib.Core.List.{List, [], _∷_, List·Memᴰ·head, List·Memᴰ·tail, List·Memᴰ·not-nil, List·Memᴰ·cases-cons}
 use Prim.Native.Nat.{ℕ, zero, suc, _+_, _*_, _^_, _≤_}
 use native.Mathlib.Nat.{le-refl, le-trans, le-of-suc-le-suc, add-zero, zero-mul, one-mul, mul-add, mul-le-mul-right, pow-zero, pow-suc, mul-comm}
+use native.Mathlib.Numerals.{add-one}
 use native.Mathlib.Omega.{arith}
 use lib.ListN.{length}
 use Rattle.words.specs.Lists.{In}
@@ -35,10 +36,11 @@ plus-finds : (c : ℕ) (o : Outcome) → Finds o → Finds (plus c o)
 unfolding plus
 plus-finds c o (m, d, e) = (m, c + d, rw e)
 
-after-gives : (o p : Outcome) (m c : ℕ) → after o p ≡ found m c → Gives o m ⊎ Gives p m
+-- what the second gives, the first did not find
+pub after-gives : (o p : Outcome) (m c : ℕ) → after o p ≡ found m c → Gives o m ⊎ ((Finds o → ⊥) × Gives p m)
 unfolding after
 after-gives (found m′ d) p m c e = inl (d, cc)
-after-gives (none d) p m c e = inr (plus-gives d p m c e)
+after-gives (none d) p m c e = inr (λ h. apart (cc (h .2)), plus-gives d p m c e)
 
 after-finds : (o p : Outcome) → Finds o ⊎ Finds p → Finds (after o p)
 unfolding after
@@ -59,7 +61,7 @@ after-nothing (none c) = ap none (add-zero c)
 
 -- ---- one call
 
-call-gives : (b : Bool) (m : ℕ) (o : Outcome) (m′ c : ℕ) → call b m o ≡ found m′ c →
+pub call-gives : (b : Bool) (m : ℕ) (o : Outcome) (m′ c : ℕ) → call b m o ≡ found m′ c →
     ((b ≡ true) × (m′ ≡ m)) ⊎ ((b ≡ false) × Gives o m′)
 unfolding call
 call-gives true m o m′ c e = inl (refl, cc)
@@ -110,6 +112,13 @@ pub powers-one : (r : ℕ) → powers 1 r ≡ r + 1
 powers-one zero = powers-zero 1
 powers-one (suc r) = powers-suc 1 r ∙ rw (one-mul, powers-one r) (omega arith)
 
+pub powers-two : (r : ℕ) → powers 2 r + 1 ≡ 2 ^ (r + 1)
+powers-two zero = ap (λ (x : ℕ). x + 1) (powers-zero 2)
+powers-two (suc r) =
+    let below : powers 2 r + 1 ≡ 2 ^ suc r = powers-two r ∙ ap (λ (x : ℕ). 2 ^ x) (add-one r) in
+    let double : 2 ^ (suc r + 1) ≡ 2 ^ suc r * 2 = ap (λ (x : ℕ). 2 ^ x) (add-one (suc r)) ∙ pow-suc 2 (suc r) in
+    omega (arith, powers-suc 2 r)
+
 -- with k at least 1 they are as many as with 1, or more
 pub powers-most : (k r : ℕ) → 1 ≤ k → r + 1 ≤ powers k r
 powers-most k zero h = rw powers-zero (le-refl 1)
@@ -127,7 +136,7 @@ module _ {A : Type 0} (s : A → Outcome) where
   try-gives (x ∷ xs) m c e =
       ⊎-elim
       (λ g. (x, List·Memᴰ·head refl, g))
-      (λ g. let (y, i, g′) = try-gives xs m (g .0) (g .1) in (y, List·Memᴰ·tail i, g′))
+      (λ (_, g). let (y, i, g′) = try-gives xs m (g .0) (g .1) in (y, List·Memᴰ·tail i, g′))
       (after-gives (s x) (try s xs) m c e)
 
   -- Where an element finds something, so does the list.

@@ -92,16 +92,30 @@ module _ {A : Type 0} where
       (λ h. or-right (p y) (some p ys) (in-some p ys x h q))
       (List·Memᴰ·cases-cons i)
 
-  -- where not every element passes, some element fails
-  pub some-fails : (p : A → Bool) (xs : List A) → every p xs ≡ false → some (λ x. not (p x)) xs ≡ true
+  -- not every element passes where some element fails
+  pub not-every : (p : A → Bool) (xs : List A) → not (every p xs) ≡ some (λ x. not (p x)) xs
   unfolding every some
-  some-fails p [] e = absurd (true≢false e)
-  some-fails p (x ∷ xs) e = go (λ e′. some-fails p xs e′) (p x) e
+  not-every p [] = refl
+  not-every p (x ∷ xs) = go (p x) (not-every p xs)
     where
-      go : (every p xs ≡ false → some (λ y. not (p y)) xs ≡ true) → (b : Bool) → (b && every p xs) ≡ false →
-          (not b || some (λ y. not (p y)) xs) ≡ true
-      go below true e′ = below e′
-      go below false e′ = refl
+      go : (b : Bool) → not (every p xs) ≡ some (λ y. not (p y)) xs → not (b && every p xs) ≡ (not b || some (λ y. not (p y)) xs)
+      go true below = below
+      go false below = refl
+
+  pub some-fails : (p : A → Bool) (xs : List A) → every p xs ≡ false → some (λ x. not (p x)) xs ≡ true
+  some-fails p xs e = sym (not-every p xs) ∙ ap not e
+
+  -- some element passes one of two tests where some passes the first or some passes the second
+  pub some-or : (p q : A → Bool) (xs : List A) → some (λ x. p x || q x) xs ≡ (some p xs || some q xs)
+  unfolding some
+  some-or p q [] = refl
+  some-or p q (x ∷ xs) = rw (some-or p q xs) (swap (p x) (q x) (some p xs) (some q xs))
+    where
+      swap : (a b c d : Bool) → ((a || b) || (c || d)) ≡ ((a || c) || (b || d))
+      swap true b c d = refl
+      swap false true true d = refl
+      swap false true false d = refl
+      swap false false c d = refl
 
   pub some-append : (p : A → Bool) (xs ys : List A) → some p (xs ++ ys) ≡ (some p xs || some p ys)
   unfolding some
