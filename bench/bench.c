@@ -121,10 +121,43 @@ static void make_horn(uint32_t n, uint32_t count, uint32_t c, uint32_t period, u
     for (uint32_t v = 1; c > 0; v++) if (fact[v - 1] && v != n) put(2 * v + 1), c--;
 }
 
+/* Some clauses of 3 literals, and four over the last two variables, which have no model. With the four alone splitting takes every call there
+   can be. */
+static void make_last(uint32_t n, uint32_t more)
+{
+    make(n, more, 3);
+    for (uint32_t i = 0; i < 4; i++) put(1u << 30 | 2), put(2 * (n - 1) + i / 2), put(2 * n + i % 2);
+}
+
+/* Clauses of c literals over neighbours, any of reach variables running: what a clause asks for is seen soon after it is set. There is a model, in
+   which every third variable is paid: a literal is turned where a clause would not be met by it. */
+static void make_near(uint32_t n, uint32_t count, uint32_t c, uint32_t reach)
+{
+    begin(n);
+    for (uint32_t i = 0; i < count; i++) {
+        uint8_t used[128] = { 0 };
+        uint32_t first = below(n - reach + 1), met = below(c);
+        put(1u << 30 | c);
+        for (uint32_t j = 0; j < c; j++) {
+            uint32_t v = first + fresh(reach, used);
+            put(2 * v + (j == met ? v % 3 != 0 : below(2)));
+        }
+    }
+}
+
 static const char *verdicts[] = { "refused", "clear", "none", "spent" };
 
-/* Who decides: the library, plain C as the papers are worded, or the fastest plain C found, by vectors in balls and by watches in rounds. */
+/* Who decides: the library, plain C as the papers are worded, or the fastest plain C found, by vectors in balls, by watches in rounds and by sets of
+   clauses in splitting. */
 enum { LIBRARY, WORDED, FASTEST };
+
+/* The reply that says what plain C answered. */
+static struct reply reply_of(int verdict, uint32_t road, const struct plain_answer *answer)
+{
+    struct reply reply = { .verdict = verdict, .batch = answer->batch, .road = road, .calls = answer->calls };
+    memcpy(reply.marks, answer->marks, sizeof reply.marks);
+    return reply;
+}
 
 /* The seconds of one run. */
 static double timed(int who, const struct plain *plain, uint32_t b, uint32_t s, uint32_t budget, struct reply *reply)
@@ -137,8 +170,7 @@ static double timed(int who, const struct plain *plain, uint32_t b, uint32_t s, 
     }
     int verdict = plain->run(b, s, budget, bytes, length, who == FASTEST, &answer);
     double took = seconds() - at;
-    *reply = (struct reply){ .verdict = verdict, .batch = answer.batch, .road = answer.horn ? ENGINE_HORN : ENGINE_BALLS, .calls = answer.calls };
-    memcpy(reply->marks, answer.marks, sizeof reply->marks);
+    *reply = reply_of(verdict, answer.horn ? ENGINE_HORN : ENGINE_BALLS, &answer);
     return took;
 }
 
@@ -217,6 +249,52 @@ static int horn(const struct plain *plain, const char *what)
     printf("%-44s %-6s %4u rounds  %7.2f us (ready %6.2f)  plain %7.2f us (%6.2f)  ratio %5.2f  watches %7.2f us (%6.2f)  ratio %5.2f%s\n", what,
            verdict, needed, whole[LIBRARY], ready[LIBRARY], whole[WORDED], ready[WORDED], whole[LIBRARY] / whole[WORDED], whole[FASTEST],
            ready[FASTEST], whole[LIBRARY] / whole[FASTEST], same ? "" : "  DIFFERENT ANSWERS");
+    return same;
+}
+
+/* Seconds of a splitting, the mean of some runs. */
+static double mean_split(int who, const struct plain *plain, uint32_t budget, int runs, struct reply *reply)
+{
+    struct plain_answer answer;
+    int verdict = 0;
+    double at = seconds();
+    for (int i = 0; i < runs; i++) {
+        if (who == LIBRARY) *reply = split(budget, bytes, length);
+        else verdict = plain->split(budget, bytes, length, who == FASTEST, &answer);
+    }
+    double took = (seconds() - at) / runs;
+    if (who != LIBRARY) *reply = reply_of(verdict, ENGINE_NO_ROAD, &answer);
+    return took;
+}
+
+/* Whether all three answer a splitting alike. */
+static int agree_split(const struct plain *plain, uint32_t budget)
+{
+    struct reply ours, worded, fastest;
+    mean_split(LIBRARY, plain, budget, 1, &ours);
+    mean_split(WORDED, plain, budget, 1, &worded);
+    mean_split(FASTEST, plain, budget, 1, &fastest);
+    return ours.road == ENGINE_NO_ROAD && agree(&ours, &worded) && agree(&ours, &fastest);
+}
+
+/* A splitting by all three in turn, the least of three means, less the least of three without a call, which read the sheet and get ready. Their
+   answers must be the same with the budget, with the calls needed, with one less and with none. */
+static int splits(const struct plain *plain, const char *what, uint32_t budget)
+{
+    double whole[] = { 1e9, 1e9, 1e9 }, ready[] = { 1e9, 1e9, 1e9 }, each[3];
+    struct reply reply = split(budget, bytes, length), last;
+    uint32_t calls = reply.calls;
+    int runs = 1 + 1000000 / (calls + 500);
+    for (int i = 0; i < 9; i++) {
+        double nothing = mean_split(i % 3, plain, 0, 200, &last), took = mean_split(i % 3, plain, budget, runs, &last);
+        if (nothing < ready[i % 3]) ready[i % 3] = nothing;
+        if (took < whole[i % 3]) whole[i % 3] = took;
+    }
+    for (int who = 0; who < 3; who++) each[who] = (whole[who] - ready[who]) / calls * 1e9;
+    int same = agree_split(plain, budget) & agree_split(plain, calls) & agree_split(plain, calls - 1) & agree_split(plain, 0);
+    printf("%-44s %-6s %8u calls  %6.1f ns a call (ready %5.1f us)  plain %7.1f ns (%5.1f)  ratio %6.3f  sets %5.1f ns (%5.1f)  ratio %5.2f%s\n",
+           what, verdicts[reply.verdict], calls, each[LIBRARY], ready[LIBRARY] * 1e6, each[WORDED], ready[WORDED] * 1e6,
+           each[LIBRARY] / each[WORDED], each[FASTEST], ready[FASTEST] * 1e6, each[LIBRARY] / each[FASTEST], same ? "" : "  DIFFERENT ANSWERS");
     return same;
 }
 
@@ -411,6 +489,42 @@ static int rows_horn(void)
     return ok;
 }
 
+/* Sheets for splitting. With n above 32 plain C takes them with masks of 128 bits. */
+static int rows_split(void)
+{
+    const struct plain *narrow = &plain32_operations, *wide = &plain128_operations;
+    uint64_t kept = state;
+    make_apart(20, 90, 3);
+    int ok = splits(narrow, "n 20, 90 clauses of 3", 4294967295u);
+    make_apart(30, 130, 3);
+    ok &= splits(narrow, "n 30, 130 clauses of 3", 4294967295u);
+    make_apart(32, 160, 3);
+    ok &= splits(narrow, "n 32, 160 clauses of 3", 4294967295u);
+    make_apart(40, 170, 3);
+    ok &= splits(wide, "n 40, 170 clauses of 3", 4294967295u);
+    make_apart(42, 189, 3);
+    ok &= splits(wide, "n 42, 189 clauses of 3", 4294967295u);
+    make_last(20, 0);
+    ok &= splits(narrow, "n 20, 4 clauses, every call there can be", 4294967295u);
+    state = 88172645463325252ull;
+    make_last(24, 20);
+    ok &= splits(narrow, "n 24, 24 clauses, no model", 4294967295u);
+    make_apart(32, 1024, 5);
+    ok &= splits(narrow, "n 32, 1,024 clauses of 5", 4294967295u);
+    make_eights(32, 3);
+    ok &= splits(narrow, "n 32, 1,024 clauses of 8, no model", 300000);
+    make_eights(128, 3);
+    ok &= splits(wide, "n 128, 1,024 clauses of 8, no model", 300000);
+    make_near(128, 600, 3, 30);
+    ok &= splits(wide, "n 128, 600 clauses of 3, within 30 variables", 4294967295u);
+    make_near(128, 1024, 3, 35);
+    ok &= splits(wide, "n 128, 1,024 clauses of 3, within 35", 4294967295u);
+    make_apart(128, 550, 3);
+    ok &= splits(wide, "n 128, 550 clauses of 3", 500000);
+    state = kept;
+    return ok;
+}
+
 int main(void)
 {
     int ok = codes();
@@ -419,5 +533,6 @@ int main(void)
     ok &= rows_64();
     ok &= rows_128();
     ok &= rows_horn();
+    ok &= rows_split();
     return !ok;
 }

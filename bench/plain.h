@@ -1,7 +1,7 @@
-/* A plain C implementation of paper 01 and of papers 2, 4 to 7 and 9 of 02, as one would write it without proofs. It is the baseline of bench/run
-   and shares no code with the crates. The search in balls has two forms: as the steps are worded, with masks per clause, in plain_masks.h; and
-   with a byte of counts per clause, 16 at a time, in plain_counts.h (vectors). So have the rounds of a Horn sheet, in plain_horn.h. What depends
-   on the masks' width is taken twice: for 32 variables, as before paper 5, and for 128. */
+/* A plain C implementation of paper 01 and of papers 2, 4 to 7, 9 and 10 of 02, as one would write it without proofs. It is the baseline of
+   bench/run and shares no code with the crates. The search in balls has two forms: as the steps are worded, with masks per clause, in plain_masks.h;
+   and with a byte of counts per clause, 16 at a time, in plain_counts.h (vectors). So have the rounds of a Horn sheet, in plain_horn.h, and plain
+   splitting, in plain_split.h. What depends on the masks' width is taken twice: for 32 variables, as before paper 5, and for 128. */
 #include <emmintrin.h>
 #include <stdint.h>
 #include <string.h>
@@ -24,6 +24,7 @@ struct plain_tally {
 struct plain {
     int (*check)(const uint8_t *bytes, size_t length);
     int (*run)(uint32_t b, uint32_t s, uint32_t budget, const uint8_t *bytes, size_t length, int fast, struct plain_answer *answer);
+    int (*split)(uint32_t budget, const uint8_t *bytes, size_t length, int fast, struct plain_answer *answer);
     int (*toggle)(const uint8_t *bytes, size_t length, uint32_t v, struct plain_tally *tally);
     int (*recount)(const uint8_t *bytes, size_t length, struct plain_tally *tally);
 };

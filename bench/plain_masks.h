@@ -124,6 +124,7 @@ static int PLAIN(call)(struct PLAIN(search) *search, MASK marks, MASK flipped, u
 
 #include "plain_counts.h"
 #include "plain_horn.h"
+#include "plain_split.h"
 
 /* Searches the balls in turn: 1 clear, 2 none, 3 spent. Their number may not fit any word, and is not made. */
 static int PLAIN(balls)(uint32_t b, uint32_t s, struct PLAIN(search) *search)
@@ -151,6 +152,24 @@ static struct PLAIN(sheet) PLAIN(taken);
 
 static int PLAIN(check)(const uint8_t *bytes, size_t length) { return PLAIN(read)(bytes, length, &PLAIN(taken)); }
 
+/* The sheet read, and a search of it before its first call: 0, or the refusal's number. */
+static int PLAIN(prepare)(uint32_t budget, const uint8_t *bytes, size_t length, struct PLAIN(search) *search, struct plain_answer *answer)
+{
+    int refused = PLAIN(read)(bytes, length, &PLAIN(taken));
+    if (refused) return refused;
+    search->sheet = &PLAIN(taken);
+    search->budget = budget;
+    search->calls = search->found = search->centre = 0;
+    answer->batch = PLAIN(taken).batch;
+    return 0;
+}
+
+static void PLAIN(finish)(const struct PLAIN(search) *search, struct plain_answer *answer)
+{
+    answer->calls = search->calls;
+    for (int k = 0; k < BITS / 32; k++) answer->marks[k] = search->found >> 32 * k;
+}
+
 /* 1 clear, 2 none, 3 spent; the number of a refusal negated. */
 static int PLAIN(run)(uint32_t b, uint32_t s, uint32_t budget, const uint8_t *bytes, size_t length, int fast, struct plain_answer *answer)
 {
@@ -158,13 +177,9 @@ static int PLAIN(run)(uint32_t b, uint32_t s, uint32_t budget, const uint8_t *by
     int verdict;
     memset(answer, 0, sizeof *answer);
     if (b < 1 || b > 12 || s > b) return -8;
-    int refused = PLAIN(read)(bytes, length, &PLAIN(taken));
+    int refused = PLAIN(prepare)(budget, bytes, length, &search, answer);
     if (refused) return -refused;
-    search.sheet = &PLAIN(taken);
-    search.budget = budget;
     search.vectors = fast;
-    search.calls = search.found = search.centre = 0;
-    answer->batch = PLAIN(taken).batch;
     answer->horn = PLAIN(is_horn)(&PLAIN(taken));
     if (answer->horn) {
         verdict = fast ? PLAIN(rounds_watched)(&search) : PLAIN(rounds)(&search);
@@ -172,8 +187,19 @@ static int PLAIN(run)(uint32_t b, uint32_t s, uint32_t budget, const uint8_t *by
         if (fast) PLAIN(begin)(&PLAIN(taken), &search);
         verdict = PLAIN(balls)(b, s, &search);
     }
-    answer->calls = search.calls;
-    for (int k = 0; k < BITS / 32; k++) answer->marks[k] = search.found >> 32 * k;
+    PLAIN(finish)(&search, answer);
+    return verdict;
+}
+
+/* The same by plain splitting. */
+static int PLAIN(split)(uint32_t budget, const uint8_t *bytes, size_t length, int fast, struct plain_answer *answer)
+{
+    struct PLAIN(search) search;
+    memset(answer, 0, sizeof *answer);
+    int refused = PLAIN(prepare)(budget, bytes, length, &search, answer);
+    if (refused) return -refused;
+    int verdict = fast ? PLAIN(split_sets)(&search) : PLAIN(split_worded)(&search);
+    PLAIN(finish)(&search, answer);
     return verdict;
 }
 
@@ -216,4 +242,4 @@ static int PLAIN(recount)(const uint8_t *bytes, size_t length, struct plain_tall
     return 0;
 }
 
-static const struct plain PLAIN(operations) = { PLAIN(check), PLAIN(run), PLAIN(toggle), PLAIN(recount) };
+static const struct plain PLAIN(operations) = { PLAIN(check), PLAIN(run), PLAIN(split), PLAIN(toggle), PLAIN(recount) };

@@ -1,7 +1,8 @@
-/* Measures the stack that run, alike, clause_counts, tally_toggle and covering_code take: each runs on a painted stack, and the paint left is
+/* Measures the stack that run, split, alike, clause_counts, tally_toggle and covering_code take: each runs on a painted stack, and the paint left is
    counted. The sheet makes the search as deep as it can be, n flips: in every block each variable is within the radius. Each flip is of the
    last literal of its clause, after up to seven whose variables are flipped already, so that a stack that grows with a clause's literals
-   shows too. Without its last clause the sheet is Horn and takes n + 1 rounds. n 128 is the limit; n 32 was it before paper 5. */
+   shows too. Without its last clause the sheet is Horn and takes n + 1 rounds. n 128 is the limit; n 32 was it before paper 5.
+   Splitting is n + 1 calls deep where a clause is decided at the last variable, by variables held, or paid, or with the longest sheet. */
 #include <pthread.h>
 #include <stdio.h>
 #include <stdlib.h>
@@ -36,8 +37,20 @@ static void make(uint32_t n, int horn)
     if (!horn) put(1u << 30 | 3), put(2 * n + 1), put(2), put(4);
 }
 
+/* Clauses of the last c variables, all positive: every variable but the last is held, and then the last is paid. */
+static void make_last(uint32_t n, uint32_t count, uint32_t c)
+{
+    length = 0;
+    put(3u << 30), put(3u << 30), put(2u << 30 | n);
+    for (uint32_t i = 0; i < count; i++) {
+        put(1u << 30 | c);
+        for (uint32_t v = n - c + 1; v <= n; v++) put(2 * v);
+    }
+}
+
 static void *do_run(void *unused) { reply = run(1, 1, 1000000, sheet, length); return unused; }
 static void *do_run_12(void *unused) { reply = run(12, 12, 1000000, sheet, length); return unused; }
+static void *do_split(void *unused) { reply = split(1000000, sheet, length); return unused; }
 static void *do_alike(void *unused) { alike(sheet, length, sheet, length); return unused; }
 static void *do_counts(void *unused)
 {
@@ -70,24 +83,41 @@ static size_t used(void *(*work)(void *))
     return SIZE - left;
 }
 
-/* A search that is n flips deep takes n + 1 calls on this sheet, and so many rounds where it is Horn. */
-static size_t deepest(void *(*work)(void *), uint32_t n, uint32_t road)
+/* As deep as it can be a search takes so many calls, or rounds. */
+static size_t deepest(void *(*work)(void *), uint32_t calls, uint32_t road)
 {
     size_t bytes = used(work);
-    if (reply.verdict == ENGINE_CLEAR && reply.calls == n + 1 && reply.road == road) return bytes;
-    fprintf(stderr, "the search is not %u flips deep\n", n);
+    if (reply.verdict == ENGINE_CLEAR && reply.calls == calls && reply.road == road) return bytes;
+    fprintf(stderr, "the search is not as deep as it can be: %u calls where %u were due\n", reply.calls, calls);
     exit(1);
+}
+
+/* Held down to the last variable splitting takes n + 2 calls, and where every variable is paid 2 n + 1. */
+static void measure_split(uint32_t n)
+{
+    size_t base = used(do_nothing), most;
+    make_last(n, 1, 1);
+    size_t held = most = deepest(do_split, n + 2, ENGINE_NO_ROAD) - base;
+    make(n, 1);
+    size_t paid = deepest(do_split, 2 * n + 1, ENGINE_NO_ROAD) - base;
+    make_last(n, 1024, 8);
+    size_t longest = deepest(do_split, n + 2, ENGINE_NO_ROAD) - base;
+    if (paid > most) most = paid;
+    if (longest > most) most = longest;
+    printf("n %u: split %zu bytes, %u calls deep (one clause, of the last variable: %zu; all variables paid: %zu; 1,024 clauses of 8: %zu)\n", n,
+           most, n + 1, held, paid, longest);
 }
 
 static void measure(uint32_t n)
 {
     size_t base = used(do_nothing);
     make(n, 1);
-    size_t horn = deepest(do_run, n, ENGINE_HORN) - base;
+    size_t horn = deepest(do_run, n + 1, ENGINE_HORN) - base;
     make(n, 0);
     printf("n %u: run %zu bytes (blocks of 12: %zu; Horn: %zu), alike %zu bytes, clause_counts %zu bytes, tally_toggle %zu bytes\n", n,
-           deepest(do_run, n, ENGINE_BALLS) - base, deepest(do_run_12, n, ENGINE_BALLS) - base, horn, used(do_alike) - base,
+           deepest(do_run, n + 1, ENGINE_BALLS) - base, deepest(do_run_12, n + 1, ENGINE_BALLS) - base, horn, used(do_alike) - base,
            used(do_counts) - base, used(do_toggle) - base);
+    measure_split(n);
 }
 
 int main(void)

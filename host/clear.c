@@ -1,6 +1,8 @@
-/* The engine's host in small: reads a sheet from a file and prints the engine's answer as the program `clearing` does, or how each
-   clause stands under an assignment and a set of flipped variables, or a tally after each toggle of a variable.
+/* The engine's host in small: reads a sheet from a file and prints the engine's answer as the program `clearing` does, or that
+   by plain splitting, or how each clause stands under an assignment and a set of flipped variables, or a tally after each toggle
+   of a variable.
    clear BLOCK_LENGTH RADIUS BUDGET FILE
+   clear split BUDGET FILE
    clear counts MARKS FLIPPED FILE
    clear tally FILE VARIABLE...
    MARKS and FLIPPED are one to four numbers with commas between them, variables 1 to 32 in the first; those left out are 0. */
@@ -127,30 +129,45 @@ static int tally(int argc, char **argv)
     return 0;
 }
 
-/* The engine's answer, as `clearing` prints it. */
+/* The engine's answer, as `clearing` prints it; where it names no road, there is no word for one. */
+static void print_reply(struct reply r)
+{
+    static const char *names[] = { "refused", "clear", "none", "spent" }, *roads[] = { "", " horn", " ball" };
+    if (r.verdict == ENGINE_REFUSED) {
+        printf("refused %u place %u\n", r.number, r.place);
+        return;
+    }
+    printf("batch %u%s %s calls %u", r.batch, roads[r.road], names[r.verdict], r.calls);
+    print_marks(r.marks);
+    printf("\n");
+}
+
 static int decide(char **argv)
 {
-    static const char *names[] = { "refused", "clear", "none", "spent" }, *roads[] = { "", "horn", "ball" };
     uint32_t size, radius, budget;
     size_t length;
     if (!number("BLOCK_LENGTH", argv[1], &size) || !number("RADIUS", argv[2], &radius) || !number("BUDGET", argv[3], &budget)) return 2;
     if (!contents(argv[4], &length)) return 2;
-    struct reply r = run(size, radius, budget, sheet, length);
-    if (r.verdict == ENGINE_REFUSED) {
-        printf("refused %u place %u\n", r.number, r.place);
-        return 0;
-    }
-    printf("batch %u %s %s calls %u", r.batch, roads[r.road], names[r.verdict], r.calls);
-    print_marks(r.marks);
-    printf("\n");
+    print_reply(run(size, radius, budget, sheet, length));
+    return 0;
+}
+
+static int by_splitting(char **argv)
+{
+    uint32_t budget;
+    size_t length;
+    if (!number("BUDGET", argv[2], &budget) || !contents(argv[3], &length)) return 2;
+    print_reply(split(budget, sheet, length));
     return 0;
 }
 
 int main(int argc, char **argv)
 {
     if (argc >= 3 && strcmp(argv[1], "tally") == 0) return tally(argc, argv);
+    if (argc == 4 && strcmp(argv[1], "split") == 0) return by_splitting(argv);
     if (argc == 5) return strcmp(argv[1], "counts") == 0 ? counts(argv) : decide(argv);
     fprintf(stderr, "usage: clear BLOCK_LENGTH RADIUS BUDGET FILE\n"
+                    "       clear split BUDGET FILE\n"
                     "       clear counts MARKS FLIPPED FILE\n"
                     "       clear tally FILE VARIABLE...\n"
                     "MARKS and FLIPPED are one to four numbers, as 1,0,0,2147483648: variables 1 to 32 in the first, those left out 0\n");

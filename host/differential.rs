@@ -1,8 +1,8 @@
-// An independent implementation of paper 01 and of papers 1, 2, 4, 5, 6, 7 and 9 of 02, compared with the proved library on many inputs:
-// long and short, valid and damaged, with few variables and up to 128, Horn, nearly Horn and others, and for paper 2 tallies of the
-// sheet, of other sheets, and of any numbers. What paper 8 says of codes and calls is tested on the library's own, and so is what all
-// runs owe, by balls or by rounds. It shares no code with the crates. It prints how many answers of each kind agreed, and every
-// disagreement.
+// An independent implementation of paper 01 and of papers 1, 2, 4, 5, 6, 7, 9 and 10 of 02, compared with the proved library on
+// many inputs: long and short, valid and damaged, with few variables and up to 128, Horn, nearly Horn and others, and for paper 2
+// tallies of the sheet, of other sheets, and of any numbers. What paper 8 says of codes and calls is tested on the library's own,
+// and so is what all runs owe, by balls or by rounds, and what they and splitting owe each other. It shares no code with the
+// crates. It prints how many answers of each kind agreed, and every disagreement.
 
 use std::collections::{BTreeSet, HashMap};
 
@@ -71,6 +71,7 @@ mod library {
     use super::{AlikeReply, CountsReply, NumberReply, Reply, TallyReply};
     extern "C" {
         pub fn run(b: u32, s: u32, budget: u32, sheet: *const u8, length: usize) -> Reply;
+        pub fn split(budget: u32, sheet: *const u8, length: usize) -> Reply;
         pub fn clause_counts(sheet: *const u8, length: usize, clause: u32, marks: *const u32, flipped: *const u32) -> CountsReply;
         pub fn tally_begin(sheet: *const u8, length: usize, marks: *mut u32, met: *mut u8, unmet: *mut u32) -> TallyReply;
         pub fn tally_toggle(sheet: *const u8, length: usize, v: u32, marks: *mut u32, met: *mut u8, unmet: *mut u32) -> TallyReply;
@@ -86,9 +87,13 @@ fn library_run(plan: (u32, u32), budget: u32, sheet: &[u8]) -> Reply {
     unsafe { library::run(plan.0, plan.1, budget, sheet.as_ptr(), sheet.len()) }
 }
 
+fn library_split(budget: u32, sheet: &[u8]) -> Reply {
+    unsafe { library::split(budget, sheet.as_ptr(), sheet.len()) }
+}
+
 // Where the two arrays are equal they are lent as one buffer.
 fn library_counts(sheet: &[u8], asked: &Question) -> CountsReply {
-    let (marks, flipped) = (split(asked.marks), split(asked.flipped));
+    let (marks, flipped) = (words_of(asked.marks), words_of(asked.flipped));
     let second = if marks == flipped { &marks } else { &flipped };
     unsafe { library::clause_counts(sheet.as_ptr(), sheet.len(), asked.clause, marks.as_ptr(), second.as_ptr()) }
 }
@@ -201,7 +206,7 @@ fn write(sheet: &Sheet) -> Vec<u8> {
 
 // Here each is one number, in which variable v has the v-th bit, the lowest being the first. It is lent, and comes back, as four
 // words, the lowest bits in the first.
-fn split(set: u128) -> [u32; 4] {
+fn words_of(set: u128) -> [u32; 4] {
     [set as u32, (set >> 32) as u32, (set >> 64) as u32, (set >> 96) as u32]
 }
 
@@ -410,14 +415,14 @@ fn difference(expected: (TallyReply, &Tally), got: (TallyReply, &Lent), before: 
     let came = Tally::of(got.1);
     let differs = (0..1024).filter(|i| expected.1.met[*i] != came.met[*i]);
     let numbers: Vec<_> = differs.map(|i| (i, before.met[i], expected.1.met[i], came.met[i])).take(8).collect();
-    let one = |reply: TallyReply, tally: &Tally| format!("{:?} marks {:?} unmet {}", reply, split(tally.marks), tally.unmet);
+    let one = |reply: TallyReply, tally: &Tally| format!("{:?} marks {:?} unmet {}", reply, words_of(tally.marks), tally.unmet);
     let lent = format!("marks {:?} unmet {}", before.marks, before.unmet);
     format!("lent {}, expected {}, got {}, numbers {:?}", lent, one(expected.0, expected.1), one(got.0, &came), numbers)
 }
 
 // Whether a tally that begins on the sheet and toggles the variables of the marks says that all terms are true.
 fn tally_clears(bytes: &[u8], marks: u128) -> bool {
-    let mut lent = Lent { marks: split(!marks), met: [5; 1024], unmet: 6 };
+    let mut lent = Lent { marks: words_of(!marks), met: [5; 1024], unmet: 6 };
     let mut fine = library_begin(bytes, &mut lent) == TallyReply::default();
     for variable in (1..=128).filter(|v| has(marks, *v)) {
         fine &= library_toggle(bytes, variable, &mut lent) == TallyReply::default();
@@ -646,7 +651,95 @@ fn run(codes: &mut Codes, plan: (u32, u32), budget: u32, bytes: &[u8]) -> (Reply
         Seen::No => (2, 0),
         Seen::Spent => (3, 0),
     };
-    (Reply { verdict, batch: sheet.batch, road, marks: split(marks), calls, ..Reply::default() }, notes)
+    (Reply { verdict, batch: sheet.batch, road, marks: words_of(marks), calls, ..Reply::default() }, notes)
+}
+
+// ---- splitting
+
+// Paper 10 of 02, word for word: each call reads every term.
+struct Splitting<'a> {
+    sheet: &'a Sheet,
+    calls: u64,
+    most: u64,
+}
+
+impl Splitting<'_> {
+    // The first so many variables are set. In marks the others are 0, and no term is read under them.
+    fn call(&mut self, set: u32, marks: u128) -> Seen {
+        if self.calls == self.most {
+            return Seen::Spent;
+        }
+        self.calls += 1;
+        if self.sheet.terms.iter().any(|t| is_lost(t, set, marks)) {
+            return Seen::No;
+        }
+        if self.sheet.terms.iter().all(|t| is_held(t, set, marks)) {
+            return Seen::Found(marks);
+        }
+        match self.call(set + 1, marks) {
+            Seen::No => self.call(set + 1, marks | only(set + 1)),
+            other => other,
+        }
+    }
+}
+
+// Only set variables, and false.
+fn is_lost(term: &[(u32, bool)], set: u32, marks: u128) -> bool {
+    term.iter().all(|l| l.0 <= set && !met(l, marks))
+}
+
+// A met literal among the set variables.
+fn is_held(term: &[(u32, bool)], set: u32, marks: u128) -> bool {
+    term.iter().any(|l| l.0 <= set && met(l, marks))
+}
+
+// What splitting comes to without a budget: the marks, if any are found, and the calls needed.
+type Whole = (Option<u128>, u64);
+
+// None where more calls are needed than the most.
+fn splitting(sheet: &Sheet, most: u64) -> Option<Whole> {
+    let mut search = Splitting { sheet, calls: 0, most };
+    match search.call(0, 0) {
+        Seen::Found(marks) => Some((Some(marks), search.calls)),
+        Seen::No => Some((None, search.calls)),
+        Seen::Spent => None,
+    }
+}
+
+// The answer with a budget. Whole is none only where more calls are needed than that.
+fn split_reply(sheet: &Result<Sheet, Refused>, whole: Option<Whole>, budget: u32) -> Reply {
+    let batch = match sheet {
+        Ok(sheet) => sheet.batch,
+        Err(r) => return Reply { number: r.0, place: r.1, ..Reply::default() },
+    };
+    let (verdict, marks, calls) = match whole {
+        Some((found, calls)) if calls <= budget as u64 => (if found.is_some() { 1 } else { 2 }, found.unwrap_or(0), calls as u32),
+        _ => (3, 0, budget),
+    };
+    Reply { verdict, batch, marks: words_of(marks), calls, ..Reply::default() }
+}
+
+// Where an assignment comes in the order in which variable 1 weighs most and 0 precedes 1.
+fn rank(marks: u128) -> u128 {
+    marks.reverse_bits()
+}
+
+// All assignments are tried in that order.
+fn first_model(sheet: &Sheet) -> Option<u128> {
+    let mut all = (0..1u128 << sheet.n).map(|i| rank(i).checked_shr(128 - sheet.n).unwrap_or(0));
+    all.find(|marks| sheet.terms.iter().all(|t| is_true(t, *marks)))
+}
+
+// The calls needed, counted without making them: the beginnings of assignments, up to that of the first model, that go on from
+// beginnings under which no term is lost and not all are held.
+fn beginnings(sheet: &Sheet) -> u64 {
+    let goes_on = |set: u32, marks: u128| {
+        let marks = marks & !(u128::MAX << set);
+        !sheet.terms.iter().any(|t| is_lost(t, set, marks)) && !sheet.terms.iter().all(|t| is_held(t, set, marks))
+    };
+    let last = first_model(sheet).map_or(u128::MAX, rank);
+    let all = (0..=sheet.n).flat_map(|set| (0..1u128 << set).map(move |marks| (set, marks)));
+    all.filter(|(set, marks)| rank(*marks) <= last && (0..*set).all(|fewer| goes_on(fewer, *marks))).count() as u64
 }
 
 // ---- alike, and the operations on codes
@@ -778,6 +871,7 @@ fn most_calls(plan: (u32, u32), sheet: &Sheet) -> u128 {
 fn nothing_agrees() -> bool {
     let none = std::ptr::null();
     let run = unsafe { library::run(3, 1, 9, none, 0) };
+    let split = unsafe { library::split(9, none, 0) };
     let words = [5, 6, 7, 8];
     let counts = unsafe { library::clause_counts(none, 0, 0, words.as_ptr(), words.as_ptr()) };
     let mut lent = Lent { marks: words, met: [4; 1024], unmet: 5 };
@@ -786,7 +880,7 @@ fn nothing_agrees() -> bool {
     let toggled = unsafe { library::tally_toggle(none, 0, 0, marks.as_mut_ptr(), met.as_mut_ptr(), unmet) };
     let alike = unsafe { library::alike(none, 0, none, 0) };
     let code = unsafe { library::covering_code(1, 0, std::ptr::null_mut(), 0) };
-    run == Reply { number: 2, ..Reply::default() }
+    [run, split] == [Reply { number: 2, ..Reply::default() }; 2]
         && counts == CountsReply { number: 2, ..CountsReply::default() }
         && [begun, toggled] == [TallyReply { number: 2, place: 0 }; 2]
         && lent == Lent { marks: words, met: [4; 1024], unmet: 5 }
@@ -794,10 +888,13 @@ fn nothing_agrees() -> bool {
         && code == NumberReply { number: 9, ..NumberReply::default() }
 }
 
-// A sheet of these clauses, a negative number being a negative literal.
+// A negative number is a negative literal.
+fn term_of(clause: &[i32]) -> Vec<(u32, bool)> {
+    clause.iter().map(|l| (l.unsigned_abs(), *l > 0)).collect()
+}
+
 fn written(n: u32, clauses: &[&[i32]]) -> Vec<u8> {
-    let terms = clauses.iter().map(|c| c.iter().map(|l| (l.unsigned_abs(), *l > 0)).collect()).collect();
-    write(&Sheet { batch: 2, n, terms })
+    write(&Sheet { batch: 2, n, terms: clauses.iter().map(|c| term_of(c)).collect() })
 }
 
 fn written_all(n: u32, clauses: &[Vec<i32>]) -> Vec<u8> {
@@ -821,6 +918,7 @@ fn sources_agree() -> bool {
         let bytes = written(*n, clauses);
         let verdict = if *model { 1 } else { 2 };
         all_plans().iter().all(|plan| library_run(*plan, u32::MAX, &bytes).verdict == verdict)
+            && library_split(u32::MAX, &bytes).verdict == verdict
     })
 }
 
@@ -1217,7 +1315,7 @@ fn choices_agree(codes: &mut Codes) -> bool {
             [[0, k, 0], [k, 0, 0], [0, k, room - k]][round % 3]
         };
         let marks = ALONE[..flips].iter().fold(only(80), |marks, alone| marks | join(*alone));
-        let clear = |calls: usize| (BALLS, 1, split(marks), calls as u32);
+        let clear = |calls: usize| (BALLS, 1, words_of(marks), calls as u32);
         let mut says = |bytes: &[u8], worked| replies(codes, (1, 1), 99, bytes, worked);
         let lone = lone_at(flips, spots(1022 - flips));
         let [forward, backward] = spared_at(flips, spots(1022 - flips));
@@ -1304,9 +1402,10 @@ fn limits_agree(codes: &mut Codes) -> bool {
         let answers = if n > 128 { [(0, 1), (0, 2)] } else { [(1, 0), (2, 0)] };
         let fine = if n > 128 {
             let reply = Reply { number, place, ..Reply::default() };
-            lent == lend(([1, 2, 3, 4], &[5], 6)) && [library_run((1, 1), 9, &bytes), run(codes, (1, 1), 9, &bytes).0] == [reply; 2]
+            let runs = [library_run((1, 1), 9, &bytes), run(codes, (1, 1), 9, &bytes).0];
+            lent == lend(([1, 2, 3, 4], &[5], 6)) && runs == [reply; 2] && library_split(9, &bytes) == reply
         } else {
-            replies(codes, (1, 1), 9, &bytes, (road, 2, [0; 4], 1))
+            replies(codes, (1, 1), 9, &bytes, (road, 2, [0; 4], 1)) && by_splitting(&bytes, (2, [0; 4], 1))
         };
         fine && begun == [refused(number, place), toggled]
             && alike == answers.map(|(answer, sheet)| AlikeReply { answer, sheet, number, place })
@@ -1367,7 +1466,7 @@ fn cores_agree(codes: &mut Codes) -> bool {
 // The three variables are ends of words. Of (v w), taken at once or after u, v has a lone opposite, or would have it if one variable
 // or flip were taken for another.
 fn spares_agree(codes: &mut Codes) -> bool {
-    let paid = |set: &[i32]| split(set.iter().fold(0, |marks, v| marks | only(*v as u32)));
+    let paid = |set: &[i32]| words_of(set.iter().fold(0, |marks, v| marks | only(*v as u32)));
     let mut all = |plan: (u32, u32), [u, v, w]: [i32; 3]| {
         let mut says = |clauses: &[&[i32]], (verdict, marks, calls)| {
             replies(codes, plan, 99, &written(128, clauses), (BALLS, verdict, marks, calls))
@@ -1525,7 +1624,7 @@ fn pairs_agree() -> bool {
 
 // ---- fixed cases of paper 9 of 02
 
-// The verdict that enough rounds come to, its marks, and the number of rounds.
+// The verdict that enough rounds, or calls, come to, its marks, and the number of them.
 type Ended = (u32, [u32; 4], u32);
 
 // The number of variables, the clauses, and how the rounds end.
@@ -1671,7 +1770,7 @@ fn chains_agree(codes: &mut Codes) -> bool {
         };
         [(1, 1), (7, 1), (7, 8)].into_iter().all(|(most, times)| {
             let mut clauses = vec![chain(n as i32, most); times].concat();
-            let clear = says(&clauses, (1, split(u128::MAX >> (128 - n)), n + 1));
+            let clear = says(&clauses, (1, words_of(u128::MAX >> (128 - n)), n + 1));
             clauses.truncate(1023);
             clauses.push(vec![-(n as i32)]);
             clear && says(&clauses, (2, [0; 4], n + 1))
@@ -1713,7 +1812,7 @@ fn roads_agree(codes: &mut Codes) -> bool {
 fn ends_but(length: usize, left_out: &[usize]) -> (Vec<Vec<i32>>, [u32; 4]) {
     let some: Vec<usize> = (0..length).filter(|i| !left_out.contains(i)).collect();
     let marks = some.iter().fold(0, |marks, i| marks | join(ALONE[*i]));
-    (some.iter().map(|i| vec![ENDS[*i]]).collect(), split(marks))
+    (some.iter().map(|i| vec![ENDS[*i]]).collect(), words_of(marks))
 }
 
 // A clause of up to eight ends with a positive literal at one place: what it names follows when all others are paid, and not when one is
@@ -1746,7 +1845,7 @@ fn heads_agree(codes: &mut Codes) -> bool {
 // Literals of two ends, alone and together, in a sheet of 128 variables and in one where the greater is the last.
 fn horn_ends_agree(codes: &mut Codes) -> bool {
     let mut pair = |(u, one): (i32, [u32; 4]), (v, other): (i32, [u32; 4])| {
-        let both = split(join(one) | join(other));
+        let both = words_of(join(one) | join(other));
         [128, u.max(v) as u32].into_iter().all(|n| {
             let mut says = |clauses: &[&[i32]], ended| by_rounds(codes, &ONE_BALL, &written(n, clauses), ended);
             says(&[&[u]], (1, one, 2))
@@ -1762,6 +1861,335 @@ fn horn_ends_agree(codes: &mut Codes) -> bool {
     };
     let ends = || ENDS.into_iter().zip(ALONE);
     ends().all(|first| ends().all(|second| pair(first, second)))
+}
+
+// ---- fixed cases of paper 10 of 02
+
+// The number of variables, the clauses, and how splitting ends.
+type Split = (u32, &'static [&'static [i32]], Ended);
+
+const SPLITS: [Split; 72] = [
+    // no variable, no clause, and empty clauses, alone and among others
+    (0, &[], (1, [0; 4], 1)),
+    (0, &[&[]], (2, [0; 4], 1)),
+    (0, &[&[], &[]], (2, [0; 4], 1)),
+    (1, &[], (1, [0; 4], 1)),
+    (1, &[&[]], (2, [0; 4], 1)),
+    (1, &[&[], &[1]], (2, [0; 4], 1)),
+    (1, &[&[1], &[]], (2, [0; 4], 1)),
+    (2, &[&[-1], &[], &[2]], (2, [0; 4], 1)),
+    (2, &[&[1, 2], &[-1, -2], &[]], (2, [0; 4], 1)),
+    (128, &[], (1, [0; 4], 1)),
+    (128, &[&[]], (2, [0; 4], 1)),
+    (128, &[&HELD, &[], &ENDS], (2, [0; 4], 1)),
+    // the settled examples of paper 01, and those of papers 4 and 9
+    (3, &[&[1, 2], &[-1, -3], &[-3]], (1, [2, 0, 0, 0], 5)),
+    (1, &[&[1], &[-1]], (2, [0; 4], 3)),
+    (1, &[&[-1], &[1]], (2, [0; 4], 3)),
+    (2, &[&[1, 2], &[1, -2], &[-1, 2], &[-1, -2]], (2, [0; 4], 7)),
+    (3, &[&[1], &[2, 3], &[-1]], (2, [0; 4], 3)),
+    (3, &[&[2, 3], &[-1], &[1]], (2, [0; 4], 3)),
+    // the examples of the sources
+    (3, &[&[1, -2], &[1, 2, 3]], (1, [4, 0, 0, 0], 5)),
+    (3, &[&[1], &[-1, 2], &[-2, 3], &[-3]], (2, [0; 4], 7)),
+    (4, &[&[1], &[-1, -2], &[3, 2], &[-3, 2, -4, 1]], (1, [5, 0, 0, 0], 6)),
+    (4, &[&[1, 2, 3], &[-1, 2, -4]], (1, [4, 0, 0, 0], 5)),
+    // one clause: it is met by the first variable that it holds, or else by the last
+    (1, &[&[1]], (1, [1, 0, 0, 0], 3)),
+    (1, &[&[-1]], (1, [0; 4], 2)),
+    (2, &[&[1]], (1, [1, 0, 0, 0], 3)),
+    (2, &[&[-1]], (1, [0; 4], 2)),
+    (2, &[&[1, 2]], (1, [2, 0, 0, 0], 4)),
+    (2, &[&[2, 1]], (1, [2, 0, 0, 0], 4)),
+    (2, &[&[1, -2]], (1, [0; 4], 3)),
+    (2, &[&[-1, 2]], (1, [0; 4], 2)),
+    (2, &[&[-1, -2]], (1, [0; 4], 2)),
+    (3, &[&[1, 2, 3]], (1, [4, 0, 0, 0], 5)),
+    (3, &[&[3, -2, 1]], (1, [0; 4], 3)),
+    (128, &[&ENDS], (1, [0, 0, 0, 1 << 31], 130)),
+    (128, &[&HELD], (1, [0; 4], 2)),
+    (128, &[&MIXED], (1, [0; 4], 33)),
+    // met by what is not set, a clause goes on: all marks 0 would meet these at once
+    (2, &[&[-2]], (1, [0; 4], 3)),
+    (3, &[&[-3], &[-2]], (1, [0; 4], 4)),
+    (3, &[&[-3, -2]], (1, [0; 4], 3)),
+    (3, &[&[1, -3]], (1, [0; 4], 4)),
+    (128, &[&[-128]], (1, [0; 4], 129)),
+    // false, but with a variable that is not set, a clause goes on
+    (2, &[&[2]], (1, [2, 0, 0, 0], 4)),
+    (3, &[&[1, 3]], (1, [4, 0, 0, 0], 5)),
+    (3, &[&[3, 1], &[2, 3]], (1, [4, 0, 0, 0], 5)),
+    (128, &[&[128]], (1, [0, 0, 0, 1 << 31], 130)),
+    // two clauses, and the second value of a variable where the first fails at once, or below it
+    (2, &[&[1], &[2]], (1, [3, 0, 0, 0], 5)),
+    (2, &[&[2], &[1]], (1, [3, 0, 0, 0], 5)),
+    (2, &[&[1], &[-2]], (1, [1, 0, 0, 0], 4)),
+    (2, &[&[-1], &[2]], (1, [2, 0, 0, 0], 4)),
+    (2, &[&[-1], &[-2]], (1, [0; 4], 3)),
+    (2, &[&[1, 2], &[1, -2]], (1, [1, 0, 0, 0], 5)),
+    (2, &[&[1, 2], &[-2]], (1, [1, 0, 0, 0], 6)),
+    (2, &[&[1, 2], &[-1]], (1, [2, 0, 0, 0], 4)),
+    (2, &[&[1, 2], &[-1, -2]], (1, [2, 0, 0, 0], 4)),
+    (2, &[&[1, -2], &[-1, 2]], (1, [0; 4], 3)),
+    (2, &[&[1, 2], &[1, -2], &[-1, 2]], (1, [3, 0, 0, 0], 7)),
+    (2, &[&[1, 2], &[1, -2], &[-1, -2]], (1, [1, 0, 0, 0], 6)),
+    // no model
+    (2, &[&[1], &[-1]], (2, [0; 4], 3)),
+    (2, &[&[2], &[-2]], (2, [0; 4], 7)),
+    (2, &[&[2], &[-2], &[1]], (2, [0; 4], 5)),
+    (2, &[&[2], &[-2], &[-1]], (2, [0; 4], 5)),
+    (3, &[&[3], &[-3]], (2, [0; 4], 15)),
+    (3, &[&[-3], &[2], &[3], &[1]], (2, [0; 4], 7)),
+    // after a branch that failed, clauses that it met are open again
+    (3, &[&[3], &[2], &[1]], (1, [7, 0, 0, 0], 7)),
+    (3, &[&[1, 3], &[-3]], (1, [1, 0, 0, 0], 11)),
+    (3, &[&[1, 2], &[-2, 3], &[-3]], (1, [1, 0, 0, 0], 9)),
+    (3, &[&[1, 2], &[1, 3], &[-2, -3]], (1, [1, 0, 0, 0], 8)),
+    (3, &[&[3], &[-3, 2], &[-2, 1]], (1, [7, 0, 0, 0], 13)),
+    // in four words: each variable that is paid was tried as 0 first
+    (128, &[&[5], &[40], &[-5, 70], &[-70, 128]], (1, [1 << 4, 1 << 7, 1 << 5, 1 << 31], 133)),
+    (128, &[&[1], &[-1, 33], &[-33, 65], &[-65, 97]], (1, [1; 4], 102)),
+    (128, &[&[32], &[-32, 64], &[-64, 96], &[-96, 128]], (1, [1 << 31; 4], 133)),
+    (128, &[&[1, 32], &[33, 64], &[65, 96], &[97, 128]], (1, [1 << 31; 4], 133)),
+];
+
+// The reply with this budget where splitting ends so.
+fn splits_to(bytes: &[u8], (verdict, marks, calls): Ended, budgets: impl IntoIterator<Item = u32>) -> bool {
+    let sheet = read(bytes);
+    let whole = sheet.as_ref().ok().and_then(|sheet| splitting(sheet, calls as u64 + 1));
+    budgets.into_iter().all(|budget| {
+        let (verdict, marks) = if budget < calls { (3, [0; 4]) } else { (verdict, marks) };
+        let expected = Reply { verdict, batch: 2, marks, calls: calls.min(budget), ..Reply::default() };
+        [library_split(budget, bytes), split_reply(&sheet, whole, budget)] == [expected; 2]
+    })
+}
+
+// With as many calls as needed, or more, this is the answer, and with fewer spent: every budget is tried where they are few. The
+// highest is the last, since a search that goes astray would take it all.
+fn by_splitting(bytes: &[u8], ended: Ended) -> bool {
+    let calls = ended.2;
+    let few = if calls <= 20 { calls } else { 2 };
+    splits_to(bytes, ended, (0..few).chain([calls / 2, calls - 1, calls, calls + 1, u32::MAX]))
+}
+
+fn just_splits(bytes: &[u8], ended: Ended) -> bool {
+    splits_to(bytes, ended, [ended.2 - 1, ended.2])
+}
+
+fn splits_agree() -> bool {
+    SPLITS.iter().all(|(n, clauses, ended)| {
+        let bytes = written(*n, clauses);
+        let counted = |sheet: Sheet| sheet.n > 8 || beginnings(&sheet) == ended.2 as u64;
+        both_ways(bytes.clone()).iter().all(|bytes| by_splitting(bytes, *ended)) && read(&bytes).is_ok_and(counted)
+    })
+}
+
+// More calls are needed than any budget here.
+fn spends(bytes: &[u8]) -> bool {
+    splits_to(bytes, (3, [0; 4], 5001), [0, 1, 2, 100, 5000])
+}
+
+// Either literal of each variable, and both, in a sheet where it is the last and in others. With both, every call goes on until
+// it is set: there are 2^(v+1) - 1, and where it is the last there cannot be more.
+fn literals_agree() -> bool {
+    (1..=128u32).all(|v| {
+        let l = v as i32;
+        [v, 128.min(v + 1), 128].into_iter().all(|n| {
+            let both = both_ways(written(n, &[&[l], &[-l]]));
+            by_splitting(&written(n, &[&[l]]), (1, words_of(only(v)), v + 2))
+                && by_splitting(&written(n, &[&[-l]]), (1, [0; 4], v + 1))
+                && both.iter().all(|bytes| if v <= 16 { by_splitting(bytes, (2, [0; 4], (2 << v) - 1)) } else { spends(bytes) })
+        })
+    })
+}
+
+// Literals of two ends, in one clause or in two, in a sheet where the greater is the last and in one of 128 variables. The first
+// model pays the greater one where either would do.
+fn split_ends_agree() -> bool {
+    let pair = |(u, one): (i32, [u32; 4]), (v, other): (i32, [u32; 4])| {
+        let both = words_of(join(one) | join(other));
+        let [first, last] = [u as u32, v as u32];
+        [last, 128].into_iter().all(|n| {
+            let says = |clauses: &[&[i32]], marks, calls| {
+                both_ways(written(n, clauses)).iter().all(|bytes| by_splitting(bytes, (1, marks, calls)))
+            };
+            says(&[&[u, v]], other, last + 2)
+                && says(&[&[v, u]], other, last + 2)
+                && says(&[&[-u, v]], [0; 4], first + 1)
+                && says(&[&[v, -u]], [0; 4], first + 1)
+                && says(&[&[u, -v]], [0; 4], last + 1)
+                && says(&[&[-v, u]], [0; 4], last + 1)
+                && says(&[&[u], &[v]], both, last + 3)
+                && says(&[&[u], &[v, -u]], both, last + 3)
+                && says(&[&[u], &[-v]], one, last + 2)
+                && says(&[&[-u], &[v]], other, last + 2)
+                && says(&[&[-u], &[-v]], [0; 4], last + 1)
+                && (last > first + 1 || says(&[&[u, v], &[u, -v]], one, first + 4))
+        })
+    };
+    let ends = || ENDS.into_iter().zip(ALONE);
+    ends().all(|first| ends().filter(|second| second.0 > first.0).all(|second| pair(first, second)))
+}
+
+// A clause of up to eight ends, with either sign each and in many orders: the first variable that it holds meets it, or else the
+// last one, wherever that stands.
+fn split_orders_agree() -> bool {
+    (1..=8usize).all(|length| {
+        (0..1usize << length).all(|signs| {
+            let mut clause: Vec<i32> = (0..length).map(|i| if signs >> i & 1 == 1 { HELD[i] } else { ENDS[i] }).collect();
+            let ended = match signs.trailing_zeros() as usize {
+                held if held < length => (1, [0; 4], ENDS[held] as u32 + 1),
+                _ => (1, ALONE[length - 1], ENDS[length - 1] as u32 + 2),
+            };
+            (0..2 * length).all(|turn| {
+                clause.rotate_left(1);
+                if turn == length {
+                    clause.reverse();
+                }
+                just_splits(&written(128, &[&clause]), ended)
+            })
+        })
+    })
+}
+
+// A sheet of 1,024 clauses with these at their places. All others are met once variable 1 is 0, and some are lost once it is 1.
+fn early(seats: &[(usize, &[i32])]) -> Vec<u8> {
+    let turned = |i: usize| {
+        let mut clause = term_of(&HELD[..1 + i % 8]);
+        clause.rotate_left(i / 8 % (1 + i % 8));
+        clause
+    };
+    let mut terms: Vec<_> = (0..1024).map(turned).collect();
+    seats.iter().for_each(|(seat, clause)| terms[*seat] = term_of(clause));
+    write(&Sheet { batch: 2, n: 128, terms })
+}
+
+// At each place among 1,024 clauses the one that is not met yet is seen, and the one that is lost.
+fn split_seats_agree() -> bool {
+    (0..1024).all(|seat: usize| {
+        let [next, far] = [1, 512].map(|on| (seat + on) % 1024);
+        let end = 1 + seat % 7;
+        let says = |seats: &[(usize, &[i32])], ended| just_splits(&early(seats), ended);
+        says(&[(seat, &[])], (2, [0; 4], 1))
+            && says(&[(seat, &[1])], (2, [0; 4], 3))
+            && says(&[(seat, &[-2])], (1, [0; 4], 3))
+            && says(&[(seat, &[2])], (1, [2, 0, 0, 0], 4))
+            && says(&[(seat, &[2]), (far, &[-2])], (2, [0; 4], 5))
+            && says(&[(seat, &[3, 2]), (next, &[-2, 3])], (1, [4, 0, 0, 0], 5))
+            && says(&[(seat, &[3, 2]), (next, &[-2, 3]), (far, &[-3])], (2, [0; 4], 9))
+            && says(&[(seat, &ENDS[end..=end])], (1, ALONE[end], ENDS[end] as u32 + 2))
+    })
+}
+
+// However often a clause stands there, nothing changes.
+fn split_repeats_agree() -> bool {
+    (1..=1023).all(|k| {
+        let says = |clause: &[i32], other: &[i32], ended| {
+            let clauses = [vec![clause; k], vec![other]].concat();
+            both_ways(written(2, &clauses)).iter().all(|bytes| just_splits(bytes, ended))
+        };
+        says(&[2], &[2], (1, [2, 0, 0, 0], 4)) && says(&[1, 2], &[-2], (1, [1, 0, 0, 0], 6)) && says(&[2], &[-2], (2, [0; 4], 7))
+    })
+}
+
+// Each variable follows from those before it: both values are tried, the first in vain, and where the last is held both.
+fn split_chains_agree() -> bool {
+    (1..=128u32).all(|n| {
+        let says = |clauses: &[Vec<i32>], ended| both_ways(written_all(n, clauses)).iter().all(|bytes| just_splits(bytes, ended));
+        [(1, 1), (7, 1), (7, 8)].into_iter().all(|(most, times)| {
+            let mut clauses = vec![chain(n as i32, most); times].concat();
+            let clear = says(&clauses, (1, words_of(u128::MAX >> (128 - n)), 2 * n + 1));
+            clauses.truncate(1023);
+            clauses.push(vec![-(n as i32)]);
+            clear && says(&clauses, (2, [0; 4], 2 * n + 1))
+        })
+    })
+}
+
+// Some variables are free, at most eight, and a clause of one literal sets each other one as the model does. Against each
+// assignment of the free ones stands a clause, but for the one that is spared: the number of it in their order.
+fn framed(n: u32, free: &[u32], model: u128, spared: Option<u32>) -> Vec<Vec<i32>> {
+    let literal = |v: u32, paid: bool| if paid { v as i32 } else { -(v as i32) };
+    let bit = |code: u32, i: usize| code >> (free.len() - 1 - i) & 1 == 1;
+    let against = |code: u32| free.iter().enumerate().map(|(i, v)| literal(*v, !bit(code, i))).collect();
+    let set = (1..=n).filter(|v| !free.contains(v)).map(|v| vec![literal(v, has(model, v))]);
+    set.chain((0..1 << free.len()).filter(|code| Some(*code) != spared).map(against)).collect()
+}
+
+// The calls that it needs. All that have set as many variables are counted at once: from each that goes on, both values are
+// tried, but from the one that leads to the spared assignment none after the value that leads there.
+fn framed_calls(n: u32, free: &[u32], model: u128, spared: Option<u32>) -> u32 {
+    let count = free.len() as u32;
+    let mut before = 0;
+    let mut calls = 1;
+    for v in 1..=n {
+        let going = match spared {
+            Some(_) if before == count => 1,
+            Some(code) => (code >> (count - before)) + 1,
+            None if before == count => 0,
+            None => 1 << before,
+        };
+        let is_free = free.contains(&v);
+        before += is_free as u32;
+        calls += match spared {
+            Some(code) if is_free => (code >> (count - before)) + 1,
+            Some(_) if !has(model, v) => 2 * going - 1,
+            _ => 2 * going,
+        };
+    }
+    calls
+}
+
+fn framed_ends(n: u32, free: &[u32], model: u128, spared: Option<u32>) -> Ended {
+    let calls = framed_calls(n, free, model, spared);
+    let Some(code) = spared else {
+        return (2, [0; 4], calls);
+    };
+    let set = (1..=n).filter(|v| !free.contains(v) && has(model, *v)).fold(0, |marks, v| marks | only(v));
+    let paid = |i: &usize| code >> (free.len() - 1 - i) & 1 == 1;
+    (1, words_of((0..free.len()).filter(paid).fold(set, |marks, i| marks | only(free[i]))), calls)
+}
+
+// The free variables, and the step from one spared assignment of them to the next.
+const FRAMES: [(&[u32], usize); 14] = [
+    (&[], 1),
+    (&[1], 1),
+    (&[128], 1),
+    (&[1, 2], 1),
+    (&[32, 33], 1),
+    (&[64, 65], 1),
+    (&[96, 97], 1),
+    (&[127, 128], 1),
+    (&[1, 128], 1),
+    (&[31, 64, 97], 1),
+    (&[32, 33, 64, 65, 96, 97], 9),
+    (&[60, 61, 62, 63, 64, 65, 66, 67], 23),
+    (&[121, 122, 123, 124, 125, 126, 127, 128], 51),
+    (&[1, 32, 33, 64, 65, 96, 97, 128], 85),
+];
+
+// The search comes back over many variables, in one word and across two, before it ends.
+fn frames_agree() -> bool {
+    let models = [0, u128::MAX, u128::MAX / 3, 0x0123_4567_89ab_cdef_1357_9bdf_0246_8ace];
+    let says = |n: u32, free: &[u32], model: u128, spared| {
+        let ended = framed_ends(n, free, model, spared);
+        both_ways(written_all(n, &framed(n, free, model, spared))).iter().all(|bytes| just_splits(bytes, ended))
+    };
+    FRAMES.iter().all(|(free, step)| {
+        let last = free.last().map_or(1, |v| *v);
+        let mut spared = (0..1 << free.len()).step_by(*step).map(Some).chain([None]);
+        spared.all(|spared| models.iter().all(|model| says(last, free, *model, spared) && says(128, free, *model, spared)))
+    })
+}
+
+// Eight free variables, and four clauses against each assignment of them: where none is spared it is the longest sheet there is.
+fn full_agree() -> bool {
+    let free = [1, 2, 3, 4, 5, 6, 7, 8];
+    (0..256).step_by(5).map(Some).chain([None]).all(|spared| {
+        let mut clauses = vec![framed(8, &free, 0, spared); 4].concat();
+        clauses.iter_mut().enumerate().for_each(|(i, clause)| clause.rotate_left(i % 8));
+        just_splits(&written_all(128, &clauses), framed_ends(8, &free, 0, spared))
+    })
 }
 
 // ---- fixed tallies
@@ -1848,9 +2276,9 @@ fn toggles_agree() -> bool {
 }
 
 // Each of the sheet's own refusals goes before refusal 10, and leaves everything, as it does at the beginning. A run has no road then,
-// and refuses a bad plan before the sheet.
+// and refuses a bad plan before the sheet. Splitting refuses the sheet whatever the budget.
 fn refusals_agree() -> bool {
-    let head = [3 << 30, 3 << 30, 2 << 30 | 2];
+    let head = [3 << 30 | 4, 3 << 30 | 5, 2 << 30 | 2];
     let sheet = |rest: &[u32]| -> Vec<u8> { head.iter().chain(rest).flat_map(|w| w.to_le_bytes()).collect() };
     let refused = [
         // too long goes before ragged, ragged before headless
@@ -1871,7 +2299,14 @@ fn refusals_agree() -> bool {
         let mut got = before.clone();
         let toggled = [0, 1, 2, 3, 33, 129, u32::MAX].iter().all(|v| library_toggle(bytes, *v, &mut got) == expected);
         let ran = |plan, number, place| library_run(plan, 9, bytes) == Reply { number, place, ..Reply::default() };
-        ran((1, 1), *number, *place) && ran((1, 2), 8, 0) && toggled && library_begin(bytes, &mut got) == expected && got == before
+        let refused = Reply { number: *number, place: *place, ..Reply::default() };
+        let split = [0, 1, 9, u32::MAX].iter().all(|budget| library_split(*budget, bytes) == refused);
+        ran((1, 1), *number, *place)
+            && ran((1, 2), 8, 0)
+            && split
+            && toggled
+            && library_begin(bytes, &mut got) == expected
+            && got == before
     })
 }
 
@@ -1949,6 +2384,10 @@ impl Random {
     }
     fn set(&mut self) -> u128 {
         (self.next() as u128) << 64 | self.next() as u128
+    }
+    // Other numbers, which leave these as they are.
+    fn fork(&self) -> Random {
+        Random(self.0.rotate_left(29) | 1)
     }
 }
 
@@ -2161,6 +2600,77 @@ fn further_sheet(r: &mut Random, sheet: &Sheet, marks: u128) -> Sheet {
     more
 }
 
+// Up to four variables are free, a half of the times ends of words, and up to twelve where there are not many in all.
+fn free_variables(r: &mut Random, n: u32) -> Vec<u32> {
+    let some: Vec<u32> = match r.below(2) {
+        0 => ENDS.iter().map(|v| *v as u32).filter(|v| *v <= n).collect(),
+        _ => (1..=n).collect(),
+    };
+    let count = r.below(if n > 24 { 5 } else { 13 });
+    (0..count).map(|_| some[r.below(some.len() as u64) as usize]).collect()
+}
+
+// Terms by which a variable follows from up to two before it, near or anywhere, whatever their values are.
+fn following(r: &mut Random, v: u32) -> Vec<Vec<(u32, bool)>> {
+    let first = if r.below(2) == 0 { v.saturating_sub(6).max(1) } else { 1 };
+    let before: Vec<u32> = (first..v).collect();
+    let count = r.below(3).min(before.len() as u64);
+    let from = random_term(r, &before, count);
+    let mut term = |signs: u32| {
+        let others = from.iter().enumerate().map(|(i, l)| (l.0, signs >> i & 1 == 1));
+        others.chain([(v, r.below(2) == 0)]).collect()
+    };
+    (0..1 << count).map(|signs| term(signs)).collect()
+}
+
+// Each variable follows from some before it, but for a few, which are free: so splitting comes to its end, however many there
+// are. A few terms of any variables end some of its branches, and a quarter of the sheets is filled up with terms that say less.
+fn determined_sheet(r: &mut Random, n: u32) -> Sheet {
+    let free = free_variables(r, n);
+    let mut terms: Vec<_> = (1..=n).filter(|v| !free.contains(v)).flat_map(|v| following(r, v)).collect();
+    let all: Vec<u32> = (1..=n).collect();
+    for _ in 0..r.below(5) {
+        let length = r.range(1, 4).min(n as u64);
+        terms.push(random_term(r, &all, length));
+    }
+    if r.below(4) == 0 && !terms.is_empty() {
+        fill(r, &all, &mut terms);
+    }
+    terms.iter_mut().for_each(|t| shuffle(r, t));
+    shuffle(r, &mut terms);
+    Sheet { batch: r.next() as u32, n, terms }
+}
+
+// No term is short, so that branches end late.
+fn long_sheet(r: &mut Random) -> Sheet {
+    let n = r.range(10, 18) as u32;
+    let all: Vec<u32> = (1..=n).collect();
+    let shortest = r.range(3, 5);
+    let count = r.range(2, 1 << shortest) * n as u64;
+    let mut term = || {
+        let length = r.range(shortest, 8);
+        let some = r.range(shortest, length);
+        random_term(r, &all, some)
+    };
+    let terms = (0..count).map(|_| term()).collect();
+    Sheet { batch: r.next() as u32, n, terms }
+}
+
+// Up to about the limit: each further term is another one with some literals more.
+fn fill(r: &mut Random, named: &[u32], terms: &mut Vec<Vec<(u32, bool)>>) {
+    let count = r.range(1000, 1024) as usize;
+    while terms.len() < count {
+        let mut term = terms[r.below(terms.len() as u64) as usize].clone();
+        for _ in 0..r.below(4) {
+            let v = named[r.below(named.len() as u64) as usize];
+            if term.len() < 8 && term.iter().all(|l| l.0 != v) {
+                term.push((v, r.below(2) == 0));
+            }
+        }
+        terms.push(term);
+    }
+}
+
 fn damage(r: &mut Random, bytes: &mut Vec<u8>) {
     for _ in 0..r.range(1, 3) {
         let words = (bytes.len() / 4) as u64;
@@ -2269,6 +2779,27 @@ fn random_question(r: &mut Random, clause: u32, term: &[(u32, bool)]) -> Questio
     Question { clause, marks, flipped }
 }
 
+// The most calls of splitting that are gone through here: the fewer, the more terms each of them reads.
+fn most_tried(r: &mut Random, stream: usize, terms: usize) -> u32 {
+    let reads = match stream {
+        FOR_SPLITTING => 4_000_000,
+        _ if r.below(40) == 0 => 400_000,
+        // most need very many, since they name few variables
+        SPREAD => 10_000,
+        _ => 40_000,
+    };
+    (reads / (8 + terms as u32)).clamp(20, 10_000)
+}
+
+// Budgets beside the most: for small sheets each up to one more than needed, for others one that is about as many, or fewer.
+fn other_budgets(r: &mut Random, stream: usize, whole: Option<Whole>, most: u32) -> Vec<u32> {
+    match whole {
+        Some((_, calls)) if stream == SMALL => (0..=calls as u32 + 1).collect(),
+        Some((_, calls)) => vec![[calls - 1, calls, calls + 1, r.below(calls)][r.below(4) as usize] as u32],
+        None => vec![r.below(most as u64) as u32],
+    }
+}
+
 // For a half of the toggles a variable of a false term, if there is one, so that sheets come to hold. A few name no variable.
 fn random_variable(r: &mut Random, input: &Input, marks: u128) -> u32 {
     let n = input.n();
@@ -2294,7 +2825,7 @@ fn random_lent(r: &mut Random) -> Lent {
         8 => r.below(1025) as u32,
         _ => r.next() as u32,
     };
-    let mut lent = Lent { marks: split(r.set()), met: [0; 1024], unmet };
+    let mut lent = Lent { marks: words_of(r.set()), met: [0; 1024], unmet };
     lent.met.fill_with(|| some[r.below(16) as usize]);
     lent
 }
@@ -2320,6 +2851,32 @@ const STREAMS: [&str; 9] = [
     "nearly Horn sheets",
     "Horn inputs made nearly Horn",
 ];
+
+// Two of them, and one more whose sheets are for splitting first of all, and run by the library alone.
+const SPREAD: usize = 2;
+const SMALL: usize = 5;
+const FOR_SPLITTING: usize = STREAMS.len();
+
+// What agreed of splitting. Kinds and large are as below, numbers those of refusals; paid are clear answers with bits in each of
+// the words, and long clear and none ones with more than 1,000 calls. Just are answers with one call fewer than needed, as many,
+// and one more. Trials are clear and none answers that all assignments were tried for, and counted those whose calls were counted
+// by their beginnings. Both are answers beside those of a run, by road and verdict, and further those of a sheet with more terms
+// by splitting after a run, by a run after splitting, and by splitting twice, all three by the first verdict.
+#[derive(Default)]
+struct Splits {
+    kinds: [[u64; 4]; STREAMS.len() + 1],
+    large: [[u64; 4]; STREAMS.len() + 1],
+    numbers: [u64; 8],
+    paid: [u64; 4],
+    long: [u64; 2],
+    just: [u64; 3],
+    trials: [u64; 2],
+    counted: u64,
+    both: [[u64; 2]; 3],
+    budgets: u64,
+    further: [[u64; 3]; 2],
+    alikes: u64,
+}
 
 // How many answers of each kind agreed, how often each saying applied, and how many disagreements. Kinds, large and parts are numbers of
 // each stream: all answers by road and verdict, those for more than 32 variables, and the clear and none ones with each of the parts of
@@ -2349,6 +2906,7 @@ struct Totals {
     toggles: [u64; 4],
     twice: u64,
     holding: u64,
+    splits: Splits,
     failed: u64,
 }
 
@@ -2369,6 +2927,15 @@ impl Totals {
         self.check(roads_agree(codes), || "a run with a Horn clause, or one that is not, at some place of 1,024 differs".into());
         self.check(heads_agree(codes), || "a run with a positive literal at some place of its clause differs".into());
         self.check(horn_ends_agree(codes), || "a run of a Horn sheet with literals at the ends of words differs".into());
+        self.check(splits_agree(), || "a fixed sheet differs by splitting".into());
+        self.check(literals_agree(), || "a literal, or both of a variable, differs by splitting".into());
+        self.check(split_ends_agree(), || "a sheet with literals at the ends of words differs by splitting".into());
+        self.check(split_orders_agree(), || "a clause in some order differs by splitting".into());
+        self.check(split_seats_agree(), || "a sheet with a clause at some place of 1,024 differs by splitting".into());
+        self.check(split_repeats_agree(), || "a sheet with a repeated clause differs by splitting".into());
+        self.check(split_chains_agree(), || "a chain differs by splitting".into());
+        self.check(frames_agree(), || "a sheet with few free variables differs by splitting".into());
+        self.check(full_agree(), || "a sheet of full length differs by splitting".into());
         self.check(places_agree(codes), || "a run with a term at some place that is dead, or would be, differs".into());
         self.check(choices_agree(codes), || "a run with a short term or a lone opposite at some place differs".into());
         self.check(seats_agree(codes), || "a run with a lone opposite at some place of 1,024 differs".into());
@@ -2599,7 +3166,134 @@ impl Totals {
                 self.budgets(r, plan, bytes, &got);
             }
         }
+        self.split(&mut r.fork(), stream, plan, bytes, &got);
         got
+    }
+
+    // Most of them come to their end, many after more calls than other sheets.
+    fn for_splitting(&mut self, r: &mut Random) {
+        let n = if r.below(3) == 0 { r.range(1, 32) as u32 } else { large_n(r) };
+        let sheet = if r.below(3) == 0 { long_sheet(r) } else { determined_sheet(r, n) };
+        let b = r.range(1, 8) as u32;
+        let bytes = write(&sheet);
+        let ran = library_run((b, b), 1000, &bytes);
+        self.split(r, FOR_SPLITTING, (b, b), &bytes, &ran);
+    }
+
+    // Splitting the sheet of a run. The whole answer is compared, with the most calls that are gone through here and with others.
+    fn split(&mut self, r: &mut Random, stream: usize, plan: (u32, u32), bytes: &[u8], ran: &Reply) {
+        let input = Input::new(bytes.to_vec());
+        let most = most_tried(r, stream, input.terms().len());
+        let whole = input.sheet.as_ref().ok().and_then(|sheet| splitting(sheet, most as u64));
+        let got = self.split_with(&input, whole, most);
+        for budget in other_budgets(r, stream, whole, most) {
+            self.split_with(&input, whole, budget);
+        }
+        self.note_split(stream, &input, &got);
+        let Ok(sheet) = &input.sheet else {
+            return;
+        };
+        self.both(sheet, ran, &got);
+        if got.decided() {
+            self.first_model(sheet, &got);
+        }
+        if r.below(16) == 0 {
+            self.split_further(r, plan, sheet, [ran, &got]);
+            self.split_alike(r, &input, most, &got);
+            self.split_budgets(r, &input, &got);
+        }
+    }
+
+    fn split_with(&mut self, input: &Input, whole: Option<Whole>, budget: u32) -> Reply {
+        let expected = split_reply(&input.sheet, whole, budget);
+        let got = library_split(budget, &input.bytes);
+        if let Some((_, calls)) = whole {
+            (0..3).for_each(|i| self.splits.just[i] += (budget as u64 + 1 == calls + i as u64) as u64);
+        }
+        let tell = || format!("split {} sheet {:?}: expected {:?}, got {:?}", budget, input.bytes, expected, got);
+        self.check(got == expected, tell);
+        got
+    }
+
+    fn note_split(&mut self, stream: usize, input: &Input, got: &Reply) {
+        let verdict = got.verdict as usize % 4;
+        self.splits.kinds[stream][verdict] += 1;
+        self.splits.large[stream][verdict] += (input.sheet.is_ok() && input.n() > 32) as u64;
+        self.splits.numbers[got.number as usize % 8] += 1;
+        (0..4).for_each(|i| self.splits.paid[i] += (got.marks[i] != 0) as u64);
+        if got.decided() {
+            self.splits.long[verdict - 1] += (got.calls > 1000) as u64;
+        }
+    }
+
+    // Whenever neither is refused or spent, both say clear or both say none. The least model comes first in the order too: where
+    // the sheet is Horn, both have the same marks.
+    fn both(&mut self, sheet: &Sheet, ran: &Reply, got: &Reply) {
+        if !ran.decided() || !got.decided() {
+            return;
+        }
+        self.splits.both[ran.road as usize][ran.verdict as usize - 1] += 1;
+        let fine = ran.verdict == got.verdict && (ran.road != HORN || ran.marks == got.marks);
+        self.check(fine, || format!("{:?}: by a run {:?}, by splitting {:?}", sheet, ran, got));
+    }
+
+    // Clear marks are the first that meet every term, none is said where no marks do, and there are not more calls than
+    // beginnings of assignments. With few variables those that are called are counted.
+    fn first_model(&mut self, sheet: &Sheet, got: &Reply) {
+        let mut fine = sheet.n > 30 || got.calls < 2 << sheet.n;
+        if sheet.n <= 12 {
+            let first = first_model(sheet);
+            self.splits.trials[got.verdict as usize - 1] += 1;
+            fine &= (got.verdict == 1) == first.is_some() && join(got.marks) == first.unwrap_or(0);
+        }
+        if sheet.n <= 4 {
+            self.splits.counted += 1;
+            fine &= got.calls as u64 == beginnings(sheet);
+        }
+        self.check(fine, || format!("{:?}: {:?} is not what all assignments say", sheet, got));
+    }
+
+    // By are the answers of a run and of splitting. A sheet with more terms is never clear after a none, by whichever of them,
+    // nor does its first model come before that of the sheet.
+    fn split_further(&mut self, r: &mut Random, plan: (u32, u32), sheet: &Sheet, by: [&Reply; 2]) {
+        let more = further_sheet(r, sheet, join(by[1].marks));
+        let longer = write(&more);
+        let [run, split] = [library_run(plan, 300, &longer), library_split(1000, &longer)];
+        for (i, (first, later)) in [(by[0], split), (by[1], run), (by[1], split)].into_iter().enumerate() {
+            if !first.decided() || !later.decided() {
+                continue;
+            }
+            self.splits.further[first.verdict as usize - 1][i] += 1;
+            let before = i == 2 && later.verdict == 1 && rank(join(later.marks)) < rank(join(first.marks));
+            let fine = first.verdict <= later.verdict && !before;
+            self.check(fine, || format!("{:?}: {:?}, with more terms {:?}: {:?}", sheet, first, more, later));
+        }
+    }
+
+    // An alike sheet gets the same answer but for its batch, since no call looks at the order of terms or at their number.
+    fn split_alike(&mut self, r: &mut Random, input: &Input, most: u32, got: &Reply) {
+        let other = Input::new(relative(r, &input.bytes));
+        if let (Ok(sheet), 1) = (&other.sheet, library_alike(&input.bytes, &other.bytes).answer) {
+            let later = library_split(most, &other.bytes);
+            self.splits.alikes += later.decided() as u64;
+            let fine = later == Reply { batch: sheet.batch, ..*got };
+            self.check(fine, || format!("split sheet {:?}: {:?}, alike {:?}: {:?}", input.bytes, got, other.bytes, later));
+        }
+    }
+
+    // A clear or none stays with any budget that is large enough, and with any other it is spent.
+    fn split_budgets(&mut self, r: &mut Random, input: &Input, got: &Reply) {
+        if !got.decided() {
+            return;
+        }
+        let calls = got.calls.max(1);
+        let same = |b: u32| library_split(b, &input.bytes) == *got;
+        let spent = |b: u32| library_split(b, &input.bytes) == Reply { verdict: 3, marks: [0; 4], calls: b, ..*got };
+        let enough = [calls, calls + 1, calls + 1 + r.below(1000) as u32, u32::MAX];
+        let fewer = [0, r.below(calls as u64) as u32, calls - 1];
+        self.splits.budgets += 1;
+        let fine = enough.into_iter().all(same) && fewer.into_iter().all(spent);
+        self.check(fine, || format!("split sheet {:?}: {:?} is not kept by other budgets", input.bytes, got));
     }
 
     // Rounds are bounded as calls are, and by the number of variables: each round but the last pays one.
@@ -2633,7 +3327,7 @@ impl Totals {
             (0..PARTS.len()).for_each(|i| self.parts[stream][i] += notes.parts[i] as u64);
         }
         self.numbers[reply.number as usize] += 1;
-        let tried = split(notes.words);
+        let tried = words_of(notes.words);
         for i in 0..4 {
             self.tried[i] += (tried[i] != 0) as u64;
             self.paid[i] += (reply.marks[i] != 0) as u64;
@@ -2775,7 +3469,36 @@ impl Totals {
         println!("tallies: refused {} begun {} toggled twice {} all true {}", begun[0], begun[1], self.twice, self.holding);
         let [refused, strange, other, own] = toggles;
         println!("toggles: refused {} no such variable {} own sheet {} other sheet or numbers {}", refused, strange, own, other);
+        self.print_splits();
         println!("differential: {} passed, {} failed", inputs.saturating_sub(self.failed), self.failed);
+    }
+
+    fn print_splits(&self) {
+        let Splits { kinds, large, numbers, paid, long, just, trials, counted, both, budgets, further, alikes } = &self.splits;
+        println!("by splitting:");
+        for (i, name) in STREAMS.iter().chain(&["sheets for splitting"]).enumerate() {
+            let [refused, clear, none, spent] = kinds[i];
+            let [_, wide_clear, wide_none, wide_spent] = large[i];
+            let all: u64 = kinds[i].iter().sum();
+            println!("{} {}: refused {} clear {} none {} spent {}", all, name, refused, clear, none, spent);
+            println!("    with n above 32: clear {} none {} spent {}", wide_clear, wide_none, wide_spent);
+        }
+        println!("refusals 1 to 7: {:?}", &numbers[1..]);
+        println!("with bits in words 1 to 4: clear answers {:?}", paid);
+        println!("with more than 1,000 calls: clear {} none {}", long[0], long[1]);
+        println!("with one call fewer than needed {} as many {} one more {}", just[0], just[1], just[2]);
+        println!("the same with other budgets, or spent {}", budgets);
+        println!("all assignments tried in order, n up to 12: clear {} none {}", trials[0], trials[1]);
+        println!("calls counted by beginnings of assignments, n up to 4: {}", counted);
+        for (road, name) in [(HORN, "rounds"), (BALLS, "balls")] {
+            let [clear, none] = both[road as usize];
+            println!("as a run by {}: clear {} none {}", name, clear, none);
+        }
+        for (i, verdict) in ["clear", "none"].iter().enumerate() {
+            let [after, before, twice] = further[i];
+            println!("{} and then more terms: after a run {} before a run {} splitting twice {}", verdict, after, before, twice);
+        }
+        println!("alike sheets, both clear or both none {}", alikes);
     }
 }
 
@@ -2787,6 +3510,7 @@ fn main() {
     let mut flips = Random(0xa076_1d64_78bd_642f);
     let mut spreads = Random(0xe703_7ed1_a0b4_28db);
     let mut rounds = Random(0x8ebc_6af0_9c88_c6e3);
+    let mut branches = Random(0x5899_65cc_7537_4cc3);
     let mut codes = Codes(HashMap::new());
     let mut totals = Totals::default();
     totals.fixed(&mut codes);
@@ -2806,6 +3530,9 @@ fn main() {
             totals.tallies(&mut touches, &bytes);
         }
         totals.others(&mut flips, &mut spreads, &mut rounds, &mut codes);
+        if branches.below(12) == 0 {
+            totals.for_splitting(&mut branches);
+        }
     }
     totals.print(inputs);
     std::process::exit((totals.failed != 0) as i32);

@@ -7,8 +7,8 @@
      valid during the call, and need live no longer: the library keeps no pointer. Meanwhile nobody writes them, and nobody reads
      the table or a tally. A pointer may be null where its length is 0. The two sheets of alike, and the two arrays of
      clause_counts, may share a buffer; the parts of a tally and its sheet may not.
-   - There is enough stack: run takes about 325 KB at its deepest (191 KB with 32 variables, 147 KB on a Horn sheet), alike 74 KB,
-     clause_counts and the operations on a tally 37 KB, covering_code 32 KB (docs/BENCH.md).
+   - There is enough stack: run takes about 325 KB at its deepest (191 KB with 32 variables, 147 KB on a Horn sheet), split 215 KB,
+     alike 74 KB, clause_counts and the operations on a tally 37 KB, covering_code 32 KB (docs/BENCH.md).
 
    In every reply `number` and `place` are the refusal's number and place (README.md has the table); both are 0 where nothing
    is refused, and a refusal is told by number not 0. What does not belong to an answer is 0. */
@@ -22,19 +22,21 @@
 extern "C" {
 #endif
 
-/* What an answer of run is. */
+/* What an answer of run, or of split, is. */
 enum { ENGINE_REFUSED = 0, ENGINE_CLEAR = 1, ENGINE_NONE = 2, ENGINE_SPENT = 3 };
 
 /* How run decided. A sheet is Horn if each of its clauses has at most one positive literal; so is one without clauses, and an empty
-   clause is no hindrance. It is decided by rounds, and every other sheet by the search in balls. A refusal has no road. */
+   clause is no hindrance. It is decided by rounds, and every other sheet by the search in balls. A refusal has no road, and split
+   names none in any answer. */
 enum { ENGINE_NO_ROAD = 0, ENGINE_HORN = 1, ENGINE_BALLS = 2 };
 
 /* An assignment, or a set of variables, is four words: variables 1 to 32 have the bits 0 to 31 of the first, 33 to 64 those of the
    second, and so on up to variable 128. A bit is 1 where the variable is paid, or in the set. */
 enum { ENGINE_WORDS = 4 };
 
-/* Clear has the assignment (marks) and the calls needed, none the calls needed, spent the budget as its calls. On a Horn sheet calls
-   counts rounds, at most n + 1, and the marks of a clear are the least model: each variable paid there is paid in every model. */
+/* Clear has the assignment (marks) and the calls needed, none the calls needed, spent the budget as its calls. Where run finds a
+   sheet to be Horn, calls counts rounds, at most n + 1, and the marks of a clear are the least model: each variable paid there is
+   paid in every model. */
 struct reply {
     uint32_t verdict;
     uint32_t batch;
@@ -50,6 +52,15 @@ struct reply {
    bad one is still refused: marks begin as 0, and each round finds the first false clause. Where no clause is false that is clear;
    where it has no positive literal that is none; otherwise the variable of its positive literal is paid, and the next round follows. */
 struct reply run(uint32_t block_length, uint32_t radius, uint32_t budget, const uint8_t *sheet, size_t length);
+
+/* Decides the sheet by plain splitting within budget calls, Horn or not. There is no plan: only a bad sheet is refused, as by
+   run. The first call has set no variable. A call that has set the first j variables says no where some clause has only set
+   variables and is false, as an empty one always is. It has found a model, the other variables 0, where every clause has a met
+   literal among the set ones. Otherwise it calls with variable j + 1 as 0 and, if that said no, as 1; where both did, it says no.
+   Every call up to the one that finds counts, or all do: at most 2^(n+1) - 1. The marks of a clear are the first model in the
+   order where variable 1 weighs most and 0 precedes 1. Whenever neither split nor a run of the same sheet is refused or spent,
+   both say clear or both say none; their marks may differ. */
+struct reply split(uint32_t budget, const uint8_t *sheet, size_t length);
 
 /* How a clause stands: how many of its literals are met, and how many are open, that is not met and with a variable that is not
    flipped. */

@@ -2,15 +2,19 @@
 """Tests of the built program `clearing`, byte by byte of what it reads and prints: every kind of line, every refusal that it
 can print with its place, the order of refusals, variables in every word of an assignment, which clauses and literals are tried
 in a ball, and the rounds of a Horn sheet. The lines are worked out by hand from paper 01 and papers 4 to 7 and 9 of 02. Then
-`tools/sheet solve` and `run.sh` over the same program."""
+`tools/sheet solve` and `run.sh` over the same program, and `tools/sheet split` beside the library's splitting (paper 10 of 02),
+by the C host that host/test.sh builds."""
 import os
+import random
 import subprocess
 import sys
+import tempfile
 import time
 import unittest
 
 ROOT = os.path.dirname(os.path.dirname(os.path.abspath(__file__)))
 PROGRAM = os.path.join(ROOT, 'target', 'bin', 'clearing')
+HOST = os.path.join(ROOT, 'target', 'host', 'clear')
 
 # a header of batch 70000 with 3 variables, and the clauses (1 2)(-1 -3)(-3)
 HEAD = [0xC0000001, 0xC0001170, 0x80000003]
@@ -703,6 +707,75 @@ class Around(unittest.TestCase):
         lines = self.ran(['run.sh', '-'], 'batch 7 n 128 (128) (-64)')[1]
         self.assertEqual(lines[:2], ['plan 1 1, budget 4294967295', 'batch 7 horn clear calls 2 marks 0 0 0 2147483648'])
         self.assertEqual(lines[-4:], ['variable 128: pay', 'clause 1 (128): met by 128', 'clause 2 (-64): met by -64', ''])
+
+
+class Split(unittest.TestCase):
+    """The tree of calls that `tools/sheet split` works out, beside the host's line."""
+
+    def setUp(self):
+        if not os.access(HOST, os.X_OK):
+            self.fail('target/host/clear is not built; host/test.sh builds it')
+
+    def says(self, budget, file):
+        ran = subprocess.run([HOST, 'split', str(budget), file], capture_output=True)
+        self.assertEqual((ran.returncode, ran.stderr), (0, b''))
+        return ran.stdout.decode()
+
+    def agree(self, n, *clauses):
+        """The calls of a sheet, by its tree and by the host, which says spent with one less."""
+        text = 'batch 5 n %d %s' % (n, ' '.join('(%s)' % ' '.join(map(str, clause)) for clause in clauses))
+        ran = subprocess.run([os.path.join(ROOT, 'tools', 'sheet'), 'split', '-'], input=text.encode(), capture_output=True)
+        self.assertEqual((ran.returncode, ran.stderr), (0, b''), text)
+        *tree, empty, line = ran.stdout.decode().splitlines()
+        self.assertEqual(empty, '')
+        with tempfile.NamedTemporaryFile() as file:
+            file.write(bytes_of(sheet(n, *clauses)))
+            file.flush()
+            self.assertEqual(self.says(0xFFFFFFFF, file.name), line + '\n', text)
+            self.assertEqual(line.split()[3:5], ['calls', str(len(tree))], text)
+            self.assertEqual(self.says(len(tree), file.name), line + '\n', text)
+            less = len(tree) - 1
+            self.assertEqual(self.says(less, file.name), 'batch 5 spent calls %d marks 0 0 0 0\n' % less, text)
+        return len(tree)
+
+    def test_examples(self):
+        self.assertEqual(self.agree(3, [1, 2], [-1, -3], [-3]), 5)
+        self.assertEqual(self.agree(2, [1, 2], [1, -2], [-1, 2], [-1, -2]), 7)
+        self.assertEqual(self.agree(1, [1], [-1]), 3)
+        for n in (0, 1, 32, 128):
+            self.assertEqual(self.agree(n), 1)
+            self.assertEqual(self.agree(n, []), 1)
+        self.assertEqual(self.agree(4, [1], [-2, 3], [], [4]), 1)
+        self.assertEqual(self.agree(4, [2, 1], [-1], [-1, 4]), 4)
+        # clauses that are decided at the last variable only: every call there can be
+        self.assertEqual(self.agree(9, [8, 9], [8, -9], [-8, 9], [-8, -9]), 1023)
+
+    def test_every_word(self):
+        for v in ALONE:
+            self.assertEqual(self.agree(128, [v]), v + 2)
+            self.assertEqual(self.agree(v, [-v]), v + 1)
+        self.assertEqual(self.agree(128, *chain(*ENDS)), 129 + 8)
+        self.assertEqual(self.agree(128, ENDS, ENDS[::-1], [-v for v in ENDS]), 130)
+        self.assertEqual(self.agree(128, *([v] for v in range(128, 0, -1))), 257)
+        # u and v are both paid: with u held both values of v say no, and what is between them is then tried as paid
+        for u, v in ((1, 33), (32, 33), (64, 65), (96, 97), (32, 97), (127, 128)):
+            others = ([-w] for w in range(1, 129) if w not in (u, v))
+            self.assertEqual(self.agree(128, *others, [u, -v], [-u, v], [u, v]), 131 + 2 * (v - u))
+
+    def test_many_clauses(self):
+        for more in (1, 62, 63, 64, 512, 1023):
+            kept = [[-4, -1]] * more
+            self.assertEqual(self.agree(6, *kept, [1, 2]), 4)
+            self.assertEqual(self.agree(6, [1, 2], *kept), 4)
+            self.assertEqual(self.agree(6, *[[-6, -5, -4]] * more, []), 1)
+            self.assertEqual(self.agree(6, *[[-1, 2, 3, 4, -5, -6]] * more, [1]), 7)
+
+    def test_random(self):
+        chance = random.Random(10)
+        for n in [1, 2, 3, 4, 5, 6, 7, 8, 9, 9] * 6:
+            longest = min(n, chance.choice((2, 3, 3, 8)))
+            self.agree(n, *([v * chance.choice((1, -1)) for v in chance.sample(range(1, n + 1), chance.randint(1, longest))]
+                            for _ in range(chance.randint(1, 5 * n))))
 
 
 if __name__ == '__main__':

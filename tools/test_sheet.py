@@ -1,9 +1,11 @@
 #!/usr/bin/env python3
 """Tests of tools/sheet: the printed example of paper 01 with the method of paper 9 of 02, both formats there and back, an answer
-explained, each message, the plans with their bounds, and a solver's lines."""
+explained, each message, the plans with their bounds, a solver's lines, and the calls of plain splitting (paper 10 of 02)."""
 import importlib.machinery
 import importlib.util
+import itertools
 import os
+import random
 import re
 import subprocess
 import sys
@@ -322,6 +324,178 @@ class Solver(unittest.TestCase):
         with self.assertRaises(sheet.Bad) as seen:
             sheet.solve(sheet.formula_of(TEXT), None, os.path.join(HERE, 'no-such-program'))
         self.assertIn('rt check clearing', str(seen.exception))
+
+
+class Split(unittest.TestCase):
+    """The calls of plain splitting; the trees are worked out by hand."""
+
+    def tree(self, text, *rows):
+        self.assertEqual(sheet.split(sheet.formula_of(text), 2000).split('\n'), list(rows))
+
+    def ran(self, text, *words):
+        ran = subprocess.run([sys.executable, os.path.join(HERE, 'sheet'), *words], input=text.encode(), capture_output=True)
+        return ran.returncode, ran.stdout.decode(), ran.stderr.decode()
+
+    def test_sample(self):
+        self.tree(TEXT,
+                  'nothing set: open',
+                  '  1 hold: open',
+                  '    2 hold: no, clause 1 (1 2) is false',
+                  '    2 pay: open',
+                  '      3 hold: found, clause 1 (1 2) by 2, clause 2 (-1 -3) by -1, clause 3 (-3) by -3',
+                  '',
+                  'batch 70000 clear calls 5 marks 2 0 0 0')
+
+    def test_no_model(self):
+        self.tree('n 2 (1 2) (1 -2) (-1 2) (-1 -2)',
+                  'nothing set: open',
+                  '  1 hold: open',
+                  '    2 hold: no, clause 1 (1 2) is false',
+                  '    2 pay: no, clause 2 (1 -2) is false',
+                  '  1 pay: open',
+                  '    2 hold: no, clause 3 (-1 2) is false',
+                  '    2 pay: no, clause 4 (-1 -2) is false',
+                  '',
+                  'batch 0 none calls 7 marks 0 0 0 0')
+        self.tree('batch 7 n 1 (1) (-1)',
+                  'nothing set: open', '  1 hold: no, clause 1 (1) is false', '  1 pay: no, clause 2 (-1) is false', '',
+                  'batch 7 none calls 3 marks 0 0 0 0')
+
+    def test_back_by_two_variables(self):
+        self.tree('n 3 (1 2 3) (1 -2) (2 1 -3) (3 -1)',
+                  'nothing set: open',
+                  '  1 hold: open',
+                  '    2 hold: open',
+                  '      3 hold: no, clause 1 (1 2 3) is false',
+                  '      3 pay: no, clause 3 (2 1 -3) is false',
+                  '    2 pay: no, clause 2 (1 -2) is false',
+                  '  1 pay: open',
+                  '    2 hold: open',
+                  '      3 hold: no, clause 4 (3 -1) is false',
+                  '      3 pay: found, clause 1 (1 2 3) by 1, clause 2 (1 -2) by 1, clause 3 (2 1 -3) by 1, clause 4 (3 -1) by 3',
+                  '',
+                  'batch 0 clear calls 10 marks 5 0 0 0')
+
+    def test_found_before_the_last_variable(self):
+        # what is not set is held, and a clause may name it: 4 in the third
+        self.tree('n 4 (2 1) (-1) (-1 4)',
+                  'nothing set: open',
+                  '  1 hold: open',
+                  '    2 hold: no, clause 1 (2 1) is false',
+                  '    2 pay: found, clause 1 (2 1) by 2, clause 2 (-1) by -1, clause 3 (-1 4) by -1',
+                  '',
+                  'batch 0 clear calls 4 marks 2 0 0 0')
+        # 2 would be held, but is not set: that meets nothing yet
+        self.tree('n 2 (-2)', 'nothing set: open', '  1 hold: open', '    2 hold: found, clause 1 (-2) by -2', '',
+                  'batch 0 clear calls 3 marks 0 0 0 0')
+
+    def test_the_first_of_several(self):
+        # of two false clauses the first, whatever the order of literals; of two literals that are met the first in the clause
+        self.tree('n 2 (1 2) (2) (-1 -2) (2 1) (-2)',
+                  'nothing set: open',
+                  '  1 hold: open',
+                  '    2 hold: no, clause 1 (1 2) is false',
+                  '    2 pay: no, clause 5 (-2) is false',
+                  '  1 pay: open',
+                  '    2 hold: no, clause 2 (2) is false',
+                  '    2 pay: no, clause 3 (-1 -2) is false',
+                  '',
+                  'batch 0 none calls 7 marks 0 0 0 0')
+        self.tree('n 3 (-3 -1) (-1 -3) (3 -2)',
+                  'nothing set: open',
+                  '  1 hold: open',
+                  '    2 hold: found, clause 1 (-3 -1) by -1, clause 2 (-1 -3) by -1, clause 3 (3 -2) by -2',
+                  '',
+                  'batch 0 clear calls 3 marks 0 0 0 0')
+        self.tree('n 2 (-2 -1) (-1 -2) (-2)',
+                  'nothing set: open',
+                  '  1 hold: open',
+                  '    2 hold: found, clause 1 (-2 -1) by -2, clause 2 (-1 -2) by -1, clause 3 (-2) by -2',
+                  '',
+                  'batch 0 clear calls 3 marks 0 0 0 0')
+
+    def test_no_clause_and_the_empty_clause(self):
+        for n in (0, 1, 128):
+            self.tree('batch 4294967295 n %d' % n, 'nothing set: found', '', 'batch 4294967295 clear calls 1 marks 0 0 0 0')
+            self.tree('n %d ()' % n, 'nothing set: no, clause 1 () is false', '', 'batch 0 none calls 1 marks 0 0 0 0')
+        self.tree('n 3 (1) (-2 3) () ()', 'nothing set: no, clause 3 () is false', '', 'batch 0 none calls 1 marks 0 0 0 0')
+
+    def test_128_variables(self):
+        rows = sheet.split(sheet.formula_of('n 128 (128)'), 130).split('\n')
+        held = ['%s%d hold: open' % ('  ' * v, v) for v in range(1, 128)]
+        self.assertEqual(rows, ['nothing set: open'] + held + [256 * ' ' + '128 hold: no, clause 1 (128) is false',
+                                                               256 * ' ' + '128 pay: found, clause 1 (128) by 128', '',
+                                                               'batch 0 clear calls 130 marks 0 0 0 2147483648'])
+        for v, marks in ENDS.items():
+            # v + 1 calls down to hold, and one more
+            last = sheet.split((7, 128, [[v]]), 2000).split('\n')[-1]
+            self.assertEqual(last, 'batch 7 clear calls %d marks %s' % (v + 2, marks))
+        every = sheet.split((0, 128, [[v] for v in range(128, 0, -1)]), 257).split('\n')
+        self.assertEqual(every[-1], 'batch 0 clear calls 257 marks' + 4 * ' 4294967295')
+        self.assertEqual(len(every), 259)
+
+    def test_the_first_model_in_order(self):
+        chance = random.Random(10)
+        for n in [0, 1, 2, 3, 4, 5, 6] * 30:
+            clauses = [[v * chance.choice((1, -1)) for v in chance.sample(range(1, n + 1), chance.randint(min(n, 1), min(n, 3)))]
+                       for _ in range(chance.randint(0, 4 * n))]
+            # in this order the first variable weighs most, and hold precedes pay
+            models = (values for values in itertools.product((0, 1), repeat=n)
+                      if all(any(values[abs(l) - 1] == (l > 0) for l in clause) for clause in clauses))
+            first, rows = next(models, None), sheet.split((0, n, clauses), 2000).split('\n')
+            verdict, marks = ('none', 0) if first is None else ('clear', sum(1 << at for at, paid in enumerate(first) if paid))
+            self.assertEqual(rows[-1], 'batch 0 %s calls %d marks %d 0 0 0' % (verdict, len(rows) - 2, marks))
+            self.assertLessEqual(len(rows) - 2, 2 ** (n + 1) - 1)
+
+    def test_too_many_calls(self):
+        # the four clauses over the last two variables: every call is needed, and 2^129 - 1 of them are never counted
+        for n, bound in ((128, '2^129 - 1 = 680564733841876926926749214863536422911'), (10, '2^11 - 1 = 2047')):
+            four = (0, n, [[n - 1, n], [n - 1, -n], [1 - n, n], [1 - n, -n]])
+            with self.assertRaises(sheet.Bad) as seen:
+                sheet.split(four, 2000)
+            told = 'splitting takes more than 2000 calls here, up to %s; --most N allows N of them' % bound
+            self.assertEqual(str(seen.exception), told)
+        self.assertEqual(sheet.split(four, 2047).split('\n')[-1], 'batch 0 none calls 2047 marks 0 0 0 0')
+        with self.assertRaises(sheet.Bad):
+            sheet.split(four, 2046)
+        text = 'n 10 (9 10) (9 -10) (-9 10) (-9 -10)'
+        status, out, told = self.ran(text, 'split', '-')
+        self.assertEqual((status, out), (1, ''))
+        self.assertIn('sheet: splitting takes more than 2000 calls', told)
+        self.assertEqual(self.ran(text, 'split', '-', '--most', '2046')[:2], (1, ''))
+        status, out, told = self.ran(text, '--most', '2047', 'split', '-')
+        self.assertEqual((status, out.count('\n'), told), (0, 2049, ''))
+
+    def test_command_line(self):
+        rows = 'nothing set: open\n  1 hold: no, clause 1 (1) is false\n  1 pay: found, clause 1 (1) by 1\n\n'
+        dimacs = 'c one clause\np cnf 33 1\n1 0\n'
+        self.assertEqual(self.ran(dimacs, 'split', '-'), (0, rows + 'batch 0 clear calls 3 marks 1 0 0 0\n', ''))
+        other = self.ran('batch 9 n 1 (1)', 'split', '-', '--batch', '8')
+        self.assertEqual(other, (0, rows + 'batch 8 clear calls 3 marks 1 0 0 0\n', ''))
+        self.assertEqual(self.ran(dimacs, 'split', '-', '--most', '3')[0], 0)
+        with tempfile.TemporaryDirectory() as folder:
+            text, tree = os.path.join(folder, 'text'), os.path.join(folder, 'tree')
+            with open(text, 'w', encoding='ascii') as file:
+                file.write('n 1 (1)')
+            self.assertEqual(self.ran('', 'split', text, '-o', tree), (0, '', ''))
+            with open(tree, encoding='ascii') as file:
+                self.assertEqual(file.read(), rows + 'batch 0 clear calls 3 marks 1 0 0 0\n')
+
+    def test_bad_arguments(self):
+        for words in (['split'], ['split', '-', '-'], ['split', '-', '--most'], ['split', '--most', '9'], ['split', '-', '9'],
+                      ['plans', '-', '--most', '9'], ['write', '-', '--most', '9'], ['--most', '9']):
+            status, out, told = self.ran(TEXT, *words)
+            self.assertEqual((status, out), (1, ''))
+            self.assertIn('sheet split FILE [--most N]', told)
+        for most in ('0', '-1', 'x', '', '4294967296', '1.0'):
+            status, out, told = self.ran(TEXT, 'split', '-', '--most', most)
+            self.assertEqual((status, out), (1, ''))
+            self.assertIn('--most is %s, and must be a number from 1 to 4294967295' % most, told)
+        for text, line in (('n 129', 1), ('n 2\n(1 3)', 2), ('p cnf 1 1\n1', 2)):
+            status, out, told = self.ran(text, 'split', '-')
+            self.assertEqual((status, out), (1, ''))
+            self.assertIn('line %d:' % line, told)
+        self.assertEqual(self.ran('', 'split', os.path.join(HERE, 'no-such-file'))[:2], (1, ''))
 
 
 if __name__ == '__main__':

@@ -1,5 +1,5 @@
 -- What the engine answers, for every plan, budget and sheet (paper 01, "What the library offers" and "When the engine declines"; 02,
--- paper 9).
+-- papers 9 and 10).
 use mathlib.Core.Bool.{cond}
 use mathlib.Core.List.{List, [], _∷_}
 use Prim.Native.Nat.{ℕ}
@@ -12,6 +12,7 @@ use Rattle.tree.specs.Explore.{Outcome}
 use Rattle.tree.specs.Budget.{Answer, clear, none, spent, answer}
 use Rattle.search.specs.Run.{Plan, searchOf, run}
 use Rattle.horn.specs.Horn.{isHorn, rounds}
+use Rattle.splitting.specs.Splitting.{split}
 use Rattle.engine.specs.declared.Method.{Method}
 use Rattle.engine.specs.declared.Method.the-variants.{Unnamed, Horn, Balls}
 use Rattle.engine.specs.declared.Reply.{Reply}
@@ -25,6 +26,10 @@ methodOf f = cond (isHorn (f .clauses)) Horn Balls
 -- The outcome of a formula by a plan, by its method. Rounds know no plan.
 unfoldable pub outcome : Plan → Formula → Outcome
 outcome p f = cond (isHorn (f .clauses)) (rounds (f .n) (f .clauses)) (run (searchOf code p f))
+
+-- The outcome of a formula by splitting.
+abbrev pub splitOutcome : Formula → Outcome
+splitOutcome f = split (f .n) (f .clauses)
 
 -- A verdict and what belongs to it: the answer of the search within its budget, or the number and the place of a refusal.
 pub data Verdict : Type 0 where
@@ -57,6 +62,14 @@ decided judge (Result.refused number place) = refusal number place
 unfoldable pub decision : Plan → ℕ → List ℕ → Decision
 decision p A s = cond (coded? (p .size) (p .radius)) (decided (judged p A) (parse s)) (refusal BAD-PLAN 0)
 
+-- the decision on a formula by splitting, which names no method
+unfoldable pub splitJudged : ℕ → Formula → Decision
+splitJudged A f = record { batch = f .batch; method = Unnamed; verdict = answered (answer A (splitOutcome f)) }
+
+-- The decision by splitting on a budget and the bytes of a sheet: there is no plan, so that only the sheet is refused.
+unfoldable pub splitDecision : ℕ → List ℕ → Decision
+splitDecision A s = decided (splitJudged A) (parse s)
+
 -- ---- the numbers of a decision, as a host in C has them
 
 abbrev pub REFUSED : ℕ
@@ -71,6 +84,9 @@ NONE = 2
 abbrev pub SPENT : ℕ
 SPENT = 3
 
+abbrev pub NO-ROAD : ℕ
+NO-ROAD = 0
+
 abbrev pub HORN : ℕ
 HORN = 1
 
@@ -79,7 +95,7 @@ BALLS = 2
 
 -- the number of a method, `road` in a reply
 unfoldable pub methodNumber : Method → ℕ
-methodNumber Unnamed = 0
+methodNumber Unnamed = NO-ROAD
 methodNumber Horn = HORN
 methodNumber Balls = BALLS
 
@@ -124,3 +140,7 @@ replyOf d = numbersOf (d .batch) (methodNumber (d .method)) (d .verdict)
 -- What `run` gives.
 unfoldable pub replyTo : Plan → ℕ → List ℕ → Reply
 replyTo p A s = replyOf (decision p A s)
+
+-- What `split` gives.
+unfoldable pub splitTo : ℕ → List ℕ → Reply
+splitTo A s = replyOf (splitDecision A s)

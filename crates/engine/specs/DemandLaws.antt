@@ -21,11 +21,11 @@ use Rattle.formula.specs.ParseRefused.{parse-refused}
 use Rattle.code.specs.Code.{code}
 use Rattle.code.specs.CodeLaws.{code-covers, code-within}
 use Rattle.code.specs.Operations.{coded?}
-use Rattle.tree.specs.Explore.{Outcome, calls, powers}
+use Rattle.tree.specs.Explore.{Outcome, found, calls, powers}
 use Rattle.tree.specs.TreeLaws.{powers-none, powers-most}
 use Rattle.tree.specs.Budget as Budget
 use Rattle.tree.specs.Budget.{answer}
-use Rattle.tree.specs.BudgetLaws.{countOf, assignmentOf}
+use Rattle.tree.specs.BudgetLaws.{countOf, assignmentOf, clear-found}
 use Rattle.tree.specs.Decides.{Decides, IsClear, IsNone, IsSpent, Correct, answer-correct, answer-stays, further-none}
 use Rattle.search.specs.Run.{Plan, Block, Code, searchOf, run, blocks, centreCount, summedRadius, product, longest}
 use Rattle.search.specs.CentreLaws.{Covering, blocks-size, blocks-covered, radius-same, blocks-most}
@@ -34,6 +34,7 @@ use Rattle.search.specs.RuleLaws.{longest-in}
 use Rattle.search.specs.RunLaws.{formula-decides, formula-bounded}
 use Rattle.horn.specs.Horn.{positives, isHorn, rounds}
 use Rattle.horn.specs.HornLaws.{rounds-calls, rounds-bounded, rounds-decide}
+use Rattle.engine.specs.declared.Reply.{Reply}
 use Rattle.engine.specs.Right.{Accepted, Answered, bad-plan, bad-sheet, is-clear, is-none, is-spent, Right, decidedBy}
 use Rattle.engine.specs.Answers.{outcome, answered, refusal, judged, decided, decision, marksOf, numbersOf, replyOf, replyTo, BAD-PLAN, REFUSED, CLEAR, NONE, SPENT}
 
@@ -166,6 +167,17 @@ module _ (b road : ℕ) where
   method-number (Budget.clear m c) = refl
   method-number (Budget.Answer.none c) = refl
   method-number (Budget.spent c) = refl
+
+-- a clear reply has the marks that were found
+pub clear-marks : {n : ℕ} {cs : List Clause} {o : Outcome} {r : Reply} (A b road : ℕ) → Decides n cs o → n ≤ width →
+    r ≡ numbersOf b road (answered (answer A o)) → r .verdict ≡ CLEAR → (c : ℕ) × (o ≡ found (marksOf r) c)
+unfolding assignmentOf
+clear-marks {o = o} {r = r} A b road decides small reply clear =
+    let (m, c, e) = clear-number b road _ .0 (rw reply at clear) in
+    let f : o ≡ found m c = clear-found A o m c e in
+    let below : m < 2 ^ width = le-trans (decides .sound m c f .0) (pow-mono small) in
+    let marks : marksOf r ≡ m = ap marksOf reply ∙ marks-number b road _ (rw e below) ∙ ap assignmentOf e in
+    (c, rw marks f)
 
 -- ---- demand 1
 

@@ -1,5 +1,6 @@
 -- The settled examples of paper 01 as papers 7 and 9 of 02 amend them, the one of paper 4, one over four words
--- by each road, one for each of paper 6's two rules, two of paper 7's and four of paper 9's, proved from the definitions by one joint statement about one table.
+-- by each road, one for each of paper 6's two rules, two of paper 7's, four of paper 9's and eight of splitting (paper 10), proved from
+-- the definitions by one joint statement about one table.
 use mathlib.Core.Path.{_≡_, refl}
 use mathlib.Core.Bool.{true, false}
 use mathlib.Core.List.{List, [], _∷_, _++_, map}
@@ -22,9 +23,10 @@ use Rattle.tree.specs.Budget as Budget
 use Rattle.search.specs.Ball as Ball
 use Rattle.search.specs.Run as Search
 use Rattle.horn.specs.Horn as Horn
+use Rattle.splitting.specs.Splitting as Splitting
 use Rattle.engine.specs.declared.Reply.{Reply}
 use Rattle.engine.specs.Answers as Answers
-use Rattle.engine.specs.Answers.{replyTo, CLEAR, NONE, SPENT, HORN, BALLS}
+use Rattle.engine.specs.Answers.{replyTo, splitTo, CLEAR, NONE, SPENT, NO-ROAD, HORN, BALLS}
 
 -- a positive and a negative literal
 abbrev pos : ℕ → Literal
@@ -33,9 +35,11 @@ pos v = record { variable = v; positive = true }
 abbrev neg : ℕ → Literal
 neg v = record { variable = v; positive = false }
 
--- What is asked of the library: a run, by its plan, budget and sheet; a code, a volume or a floor, by length and radius.
+-- What is asked of the library: a run, by its plan, budget and sheet; splitting, by its budget and sheet; a code, a volume or a floor, by
+-- length and radius.
 pub data Question : Type 0 where
   run-of : (size radius budget : ℕ) → Formula → Question
+  split-of : (budget : ℕ) → Formula → Question
   code-of : (t s : ℕ) → Question
   volume-of : (t s : ℕ) → Question
   floor-of : (t s : ℕ) → Question
@@ -57,6 +61,7 @@ wordsIn (Refused r) table = []
 -- The library's answer, in numbers: of a code its words.
 pub ask : Question → List ℕ
 ask (run-of size radius budget f) = numbers (replyTo (Search.plan size radius) budget (encode f))
+ask (split-of budget f) = numbers (splitTo budget (encode f))
 ask (code-of t s) = let table : List ℕ = replicate (2 ^ t) 0 in wordsIn (codeAnswer t s table) (codeTable t s table)
 ask (volume-of t s) = answerNumbers (volumeAnswer t s)
 ask (floor-of t s) = answerNumbers (floorAnswer t s)
@@ -66,6 +71,9 @@ ask (floor-of t s) = answerNumbers (floorAnswer t s)
 -- a sheet of batch 0
 abbrev sheet : ℕ → List Clause → Formula
 sheet n cs = record { batch = 0; n = n; clauses = cs }
+
+abbrev sample : Formula
+sample = sheet 3 ((pos 1 ∷ pos 2 ∷ []) ∷ (neg 1 ∷ neg 3 ∷ []) ∷ (neg 3 ∷ []) ∷ [])
 
 abbrev opposites : Formula
 opposites = sheet 1 ((pos 1 ∷ []) ∷ (neg 1 ∷ []) ∷ [])
@@ -100,7 +108,7 @@ pub examples : List Row
 examples =
     row (run-of 3 1 1 (sheet 0 [])) (the-clear HORN no-marks 1)
     ∷ row (run-of 3 1 9 (sheet 0 ([] ∷ []))) (the-none HORN 1)
-    ∷ row (run-of 3 1 9 (sheet 3 ((pos 1 ∷ pos 2 ∷ []) ∷ (neg 1 ∷ neg 3 ∷ []) ∷ (neg 3 ∷ []) ∷ []))) (the-clear BALLS (1 ∷ 0 ∷ 0 ∷ 0 ∷ []) 2)
+    ∷ row (run-of 3 1 9 sample) (the-clear BALLS (1 ∷ 0 ∷ 0 ∷ 0 ∷ []) 2)
     ∷ row (run-of 1 1 2 opposites) (the-none HORN 2)
     ∷ row (run-of 1 1 1 opposites) (the-spent HORN 1)
     ∷ row (run-of 1 0 2 opposites) (the-none HORN 2)
@@ -126,6 +134,14 @@ examples =
     ∷ row (run-of 3 1 3 (sheet 3 ((pos 1 ∷ []) ∷ (neg 1 ∷ []) ∷ (pos 2 ∷ []) ∷ []))) (the-none HORN 2)
     ∷ row (run-of 2 2 4 chain) (the-clear HORN (7 ∷ 0 ∷ 0 ∷ 0 ∷ []) 4)
     ∷ row (run-of 2 2 3 chain) (the-spent HORN 3)
+    ∷ row (split-of 1 (sheet 0 [])) (the-clear NO-ROAD no-marks 1)
+    ∷ row (split-of 1 (sheet 0 ([] ∷ []))) (the-none NO-ROAD 1)
+    ∷ row (split-of 5 sample) (the-clear NO-ROAD (2 ∷ 0 ∷ 0 ∷ 0 ∷ []) 5)
+    ∷ row (split-of 4 sample) (the-spent NO-ROAD 4)
+    ∷ row (split-of 3 opposites) (the-none NO-ROAD 3)
+    ∷ row (split-of 7 all-four) (the-none NO-ROAD 7)
+    ∷ row (split-of 3 (sheet 2 ((neg 2 ∷ []) ∷ []))) (the-clear NO-ROAD no-marks 3)
+    ∷ row (split-of 35 (sheet 33 ((pos 33 ∷ []) ∷ []))) (the-clear NO-ROAD (0 ∷ 1 ∷ 0 ∷ 0 ∷ []) 35)
     ∷ row (code-of 2 1) (0 ∷ 1 ∷ [])
     ∷ row (code-of 3 1) (0 ∷ 7 ∷ [])
     ∷ row (code-of 4 1) (0 ∷ 7 ∷ 8 ∷ 15 ∷ [])
@@ -153,8 +169,10 @@ unfolding examples ask numbers answerNumbers wordsIn
     Search.blockOf Search.shortBlock Search.blocks Search.summedRadius Search.centreCount Search.centreAt
     Search.searchOf Search.ball Search.run
     Horn.positives Horn.isHorn Horn.firstFalse Horn.hornTree Horn.rounds
+    Splitting.isSet Splitting.isLost Splitting.isSure Splitting.setNext Splitting.splitTree Splitting.split
     Budget.whole Budget.answer
     Answers.methodOf Answers.outcome Answers.refusal Answers.judged Answers.decided Answers.decision
-    Answers.methodNumber Answers.numbersOf Answers.replyOf replyTo
+    Answers.splitJudged Answers.splitDecision
+    Answers.methodNumber Answers.numbersOf Answers.replyOf replyTo splitTo
     lib.Count.ones lib.Count.onesIn
 examples-hold = refl

@@ -3,15 +3,13 @@ use mathlib.Core.Path.{_≡_, refl, sym, ap, _∙_}
 use mathlib.Core.Logic.{_⊎_, inl, inr}
 use mathlib.Core.Bool.{Bool, true, false, cond}
 use mathlib.Core.List.{List}
-use Prim.Native.Nat.{ℕ, _+_, _^_, _≤_, _<_}
+use Prim.Native.Nat.{ℕ, _+_, _≤_}
 use native.Mathlib.Nat.{le-trans}
-use lib.Pow.{pow-mono}
-use Rattle.words.specs.Bits.{bit, width}
+use Rattle.words.specs.Bits.{bit}
 use Rattle.formula.specs.Formula.{Formula, allTrue}
 use Rattle.formula.specs.ParseAccepted.{parse-well-formed}
-use Rattle.tree.specs.Explore.{Outcome, found, calls}
+use Rattle.tree.specs.Explore.{Outcome, calls}
 use Rattle.tree.specs.Budget.{answer}
-use Rattle.tree.specs.BudgetLaws.{assignmentOf, clear-found}
 use Rattle.code.specs.Code.{code}
 use Rattle.search.specs.Run.{Plan, searchOf, run, longest}
 use Rattle.search.specs.RuleLaws.{longest-in}
@@ -21,7 +19,7 @@ use Rattle.engine.specs.declared.Method.the-variants.{Horn, Balls}
 use Rattle.engine.specs.declared.Reply.{Reply}
 use Rattle.engine.specs.Answers.{methodOf, outcome, answered, methodNumber, numbersOf, marksOf, replyTo, CLEAR, HORN, BALLS}
 use Rattle.engine.specs.Right.{Accepted, decidedBy}
-use Rattle.engine.specs.DemandLaws.{outcome-decides, reply-accepted, clear-number, marks-number, method-number}
+use Rattle.engine.specs.DemandLaws.{outcome-decides, reply-accepted, clear-marks, method-number}
 
 -- The reply to an accepted sheet says which road it took: rounds where the sheet is Horn, and balls otherwise.
 pub method-told : (p : Plan) (A : ℕ) (s : List ℕ) (f : Formula) → Accepted p s f →
@@ -65,13 +63,8 @@ module _ (p : Plan) (s : List ℕ) (f : Formula) (h : Accepted p s f) (horn : is
   -- and the marks of a clear are the least: each variable set there is set in every model.
   pub horn-least : (A : ℕ) → replyTo p A s .verdict ≡ CLEAR → (w : ℕ) → allTrue w (f .clauses) ≡ true →
       (v : ℕ) → bit (marksOf (replyTo p A s)) v ≡ true → bit w v ≡ true
-  unfolding Subset assignmentOf
+  unfolding Subset
   horn-least A c w model =
       let formed = parse-well-formed s f (h .sheet) in
-      let reply = reply-accepted p A s f h in
-      let (m, d, e) = clear-number (f .batch) (decidedBy f) _ .0 (rw reply at c) in
-      let o : outcome p f ≡ found m d = clear-found A (outcome p f) m d e in
-      let below : m < 2 ^ width = le-trans (outcome-decides p f formed .sound m d o .0) (pow-mono (formed .variables)) in
-      let marks : marksOf (replyTo p A s) ≡ m =
-      ap marksOf reply ∙ marks-number (f .batch) (decidedBy f) _ (rw e below) ∙ ap assignmentOf e in
-      rw marks (rounds-least (f .n) (f .clauses) horn m d (sym (by-rounds p f horn) ∙ o) w model)
+      let (d, o) = clear-marks A (f .batch) (decidedBy f) (outcome-decides p f formed) (formed .variables) (reply-accepted p A s f h) c in
+      rounds-least (f .n) (f .clauses) horn _ d (sym (by-rounds p f horn) ∙ o) w model

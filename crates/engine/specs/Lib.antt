@@ -4,6 +4,7 @@ pub mod Replies
 pub mod Right
 pub mod Demands
 pub mod HornAnswers
+pub mod SplitAnswers
 pub mod AlikeAnswers
 pub mod CountsAnswers
 pub mod TallyAnswers

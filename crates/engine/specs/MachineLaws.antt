@@ -1,4 +1,4 @@
--- The laws that `decide`, `clause_counts` and the operations on a tally cite, one for each way through them.
+-- The laws that `decide`, `decide_by_splitting`, `clause_counts` and the operations on a tally cite, one for each way through them.
 use mathlib.Core.Path.{_≡_, refl, ap, _∙_}
 use mathlib.Core.Bool.{true, false}
 use mathlib.Core.List.{List, []}
@@ -19,12 +19,13 @@ use Rattle.search.specs.Ball.{State, Reading as ClauseReading, reading}
 use Rattle.search.specs.Run.{Plan, plan, blocks, searchOf, run}
 use Rattle.search.specs.Machine.{searchIn}
 use Rattle.horn.specs.Horn.{isHorn, rounds}
+use Rattle.splitting.specs.Splitting.{split}
 use Rattle.tally.specs.Tally.{Tally}
 use Rattle.tally.specs.Machine.{outcomeOf, Comes}
 use Rattle.tally.specs.declared.Outcome.{Outcome}
 use Rattle.engine.specs.declared.exports.TallyReply.{TallyReply}
-use Rattle.engine.specs.declared.Method.the-variants.{Horn, Balls}
-use Rattle.engine.specs.Answers.{methodOf, outcome, refusal, answered, judged, decided, decision, BAD-PLAN}
+use Rattle.engine.specs.declared.Method.the-variants.{Unnamed, Horn, Balls}
+use Rattle.engine.specs.Answers.{methodOf, outcome, refusal, answered, judged, decided, decision, splitJudged, splitDecision, BAD-PLAN}
 use Rattle.engine.specs.Replies.{clauseCountsOf, clauseCountsTo, tallyReplyOf, TallyMade}
 use Rattle.engine.specs.Machine.{outcomeReply}
 
@@ -65,6 +66,20 @@ module _ (p : Plan) (A b n k : ℕ) (cells : List ℕ) where
       record { batch = b; method = Balls; verdict = answered a } ≡ judged p A formula
   unfolding judged methodOf outcome searchIn searchOf
   judged-balls e a g = rw (e, g)
+
+-- ---- splitting
+
+module _ (A : ℕ) (s : List ℕ) (r : Reading) (cells : List ℕ) (h : SheetRead s r cells) where
+  -- the sheet's refusal,
+  pub split-declined : (q : Refusal) → r ≡ Stopped q → refusal (q .number) (q .place) ≡ splitDecision A s
+  unfolding splitDecision decided
+  split-declined q e = rw (sheet-refused s r cells h q e)
+
+  -- and otherwise the answer of splitting in the table that was read.
+  pub split-judged : (b n k : ℕ) → r ≡ Accepted b n k → (a : Answer) → a ≡ answer A (split n (held k cells)) →
+      record { batch = b; method = Unnamed; verdict = answered a } ≡ splitDecision A s
+  unfolding splitDecision decided splitJudged
+  split-judged b n k e a g = rw (sheet-accepted s r cells h b n k e .0, g)
 
 -- ---- a clause's reading
 

@@ -1,4 +1,4 @@
-// The engine: a sheet decided by a plan within a budget, for Rattle and for C.
+// The engine: a sheet decided by a plan within a budget, or by splitting, for Rattle and for C.
 mod exports;
 
 pub use exports::AlikeReply;
@@ -24,7 +24,7 @@ ghost use Rattle.words.specs.Machine.{bitsOf};
 ghost use Rattle.formula.specs.Machine.{Table, held};
 ghost use Rattle.tree.specs.Machine.{answerIn};
 ghost use Rattle.search.specs.Run.{plan};
-ghost use Rattle.engine.specs.Answers.{answered, refusal, judged, decision, methodNumber, counts, declines, replyOf, replyTo};
+ghost use Rattle.engine.specs.Answers.{answered, refusal, judged, decision, splitDecision, methodNumber, counts, declines, replyOf, replyTo, splitTo};
 ghost use Rattle.engine.specs.Machine.{verdictIn, decisionIn};
 
 // The numbers of the verdicts.
@@ -50,7 +50,7 @@ pub enum Verdict {
 }
 
 // How a sheet was decided: by rounds where it is Horn, and otherwise by balls. A refusal names no
-// method.
+// method, and neither does splitting, which is asked for.
 pub enum Method {
     Unnamed,
     Horn,
@@ -152,6 +152,24 @@ pub fn decide(size: u32, radius: u32, budget: u32, sheet: &[u8]) -> Decision
     }
 }
 
+// The decision by splitting on a budget of calls and the bytes of a sheet.
+pub fn decide_by_splitting(budget: u32, sheet: &[u8]) -> Decision
+    ensures { λ r. ⌜ decisionIn r ≡ splitDecision budget (now (sheet .entry)) ⌝ }
+{
+    let mut table = formula::empty_table();
+    match formula::read_sheet(sheet, &mut table) {
+        Reading::Accepted { batch, n, clauses } => {
+            let found = splitting::split(&table, n, clauses, budget);
+            Decision {
+                batch,
+                method: Method::Unnamed,
+                verdict: settled(found),
+            }
+        }
+        Reading::Refused(refusal) => refused(refusal),
+    }
+}
+
 // The reply of a search, with the number of its verdict.
 fn counted(verdict: u32, batch: u32, road: u32, marks: Assignment, calls: u32) -> Reply
     ensures { λ r. ⌜ r ≡ counts verdict batch road (bitsOf marks) calls ⌝ }
@@ -215,10 +233,18 @@ fn numbers(decision: Decision) -> Reply
     }
 }
 
-// The same for a host in C.
+// `decide` for a host in C.
 #[no_mangle]
 pub extern "C" fn run(size: u32, radius: u32, budget: u32, sheet: &[u8]) -> Reply
     ensures { λ r. ⌜ r ≡ replyTo (plan size radius) budget (now (sheet .entry)) ⌝ }
 {
     numbers(decide(size, radius, budget, sheet))
+}
+
+// `decide_by_splitting` for a host in C.
+#[no_mangle]
+pub extern "C" fn split(budget: u32, sheet: &[u8]) -> Reply
+    ensures { λ r. ⌜ r ≡ splitTo budget (now (sheet .entry)) ⌝ }
+{
+    numbers(decide_by_splitting(budget, sheet))
 }

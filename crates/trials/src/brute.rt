@@ -5,7 +5,10 @@ ghost use mathlib.Core.Bool.{cond};
 ghost use lib.Bits.{bitAnd};
 ghost use Prim.Native.Nat.{_*_, _≤_};
 ghost use lib.ListN.{length};
-ghost use Rattle.trials.specs.Brute.{falsified, meetsAll, hasModel, inAllModels, everyHorn};
+ghost use Rattle.trials.specs.Brute.{falsified, meetsAll, reversed, firstModel, inAllModels, everyHorn};
+
+// No assignment of so few variables.
+pub const NO_MODEL: u32 = 4294967295;
 
 fn falsifies(assignment: u32, positive: u32, negative: u32) -> bool
     ensures { λ r. ⌜ r ≡ falsified assignment positive negative ⌝ }
@@ -28,20 +31,36 @@ pub fn meets(assignment: u32, table: &[u32], k: usize) -> bool
     true
 }
 
-// Whether an assignment of n variables does.
-pub fn has_model(n: u32, table: &[u32], k: usize) -> bool
+// The lowest n bits of x the other way round.
+fn reversed(x: u32, n: u32) -> u32
+    requires { ⌜ n ≤ 12 ⌝ }
+    ensures { λ r. ⌜ r ≡ reversed x n ⌝ }
+{
+    let mut bits = 0;
+    let mut v = 0;
+    while v < n {
+        bits = 2 * bits + (x >> v) % 2;
+        v += 1;
+    }
+    bits
+}
+
+// The first assignment of n variables that does, in the order where variable 1 weighs most, or
+// NO_MODEL.
+pub fn first_model(n: u32, table: &[u32], k: usize) -> u32
     requires { ⌜ (n ≤ 12) × (2 * k ≤ length (now table)) ⌝ }
-    ensures { λ r. ⌜ r ≡ hasModel n (now (table .entry)) k ⌝ }
+    ensures { λ r. ⌜ r ≡ firstModel n (now (table .entry)) k ⌝ }
 {
     let assignments = 1u32 << n;
-    let mut assignment = 0;
-    while assignment < assignments {
+    let mut at = 0;
+    while at < assignments {
+        let assignment = reversed(at, n);
         if meets(assignment, table, k) {
-            return true;
+            return assignment;
         }
-        assignment += 1;
+        at += 1;
     }
-    false
+    NO_MODEL
 }
 
 // The variables of `common` that are 1 in an assignment too, where it is a model.

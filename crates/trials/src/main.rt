@@ -1,13 +1,15 @@
 // Trials of the engine on generated sheets: n 0 to 12, clauses of 0 to 8 literals, half of the
-// sheets Horn or nearly so, every plan, and budgets below, at and above the calls needed. Each
-// answer is compared with a trial of all assignments that shares nothing with the search: also the
-// least model of a Horn sheet. It prints every run that disagrees, and counts.
+// sheets Horn or nearly so, every plan, and budgets below, at and above the calls needed; and each
+// sheet by splitting too. Each answer is compared with a trial of all assignments that shares
+// nothing with the search: also the least model of a Horn sheet, and the first that splitting finds.
+// It prints every run that disagrees, and counts.
 // The counts record how many sheets of each kind the fixed generator makes; that no run disagrees
 // is what is tested.
 mod brute;
 mod sheets;
 
-use brute::has_model;
+use brute::NO_MODEL;
+use brute::first_model;
 use brute::in_all_models;
 use brute::is_horn;
 use brute::meets;
@@ -27,22 +29,26 @@ const BUDGET: u32 = 10000;
 
 const LARGEST_BUDGET: u32 = 4294967295;
 
-// A sheet by its number, the plan that it is tried with, and what its answer is compared with.
+// A sheet by its number, the plan that it is tried with or whether it is split, and what its answer
+// is compared with.
 struct Case {
     number: u32,
+    split: bool,
     size: u32,
     radius: u32,
     batch: u32,
     n: u32,
     clauses: usize,
-    model: bool,
+    first: u32,
     horn: bool,
     least: u32,
 }
 
-// How many sheets agreed, by road and verdict (Horn sheets are never spent here); how many runs with
-// another budget agreed; and how many runs did not.
+// How many sheets agreed, by road and verdict (Horn sheets are never spent here, and splitting never
+// is); how many runs with another budget agreed; and how many runs did not.
 struct Counts {
+    split_clear: u64,
+    split_none: u64,
     horn_clear: u64,
     horn_none: u64,
     clear: u64,
@@ -65,6 +71,8 @@ fn more(count: u64) -> u64 {
 impl Counts {
     fn zero() -> Counts {
         Counts {
+            split_clear: 0,
+            split_none: 0,
             horn_clear: 0,
             horn_none: 0,
             clear: 0,
@@ -75,12 +83,26 @@ impl Counts {
         }
     }
 
-    fn with_verdict(mut self, horn: bool, verdict: u32) -> Counts {
-        if horn && verdict == engine::CLEAR {
+    fn with_split(mut self, verdict: u32) -> Counts {
+        if verdict == engine::CLEAR {
+            self.split_clear = more(self.split_clear);
+        } else {
+            self.split_none = more(self.split_none);
+        }
+        self
+    }
+
+    fn with_horn(mut self, verdict: u32) -> Counts {
+        if verdict == engine::CLEAR {
             self.horn_clear = more(self.horn_clear);
-        } else if horn {
+        } else {
             self.horn_none = more(self.horn_none);
-        } else if verdict == engine::CLEAR {
+        }
+        self
+    }
+
+    fn with_ball(mut self, verdict: u32) -> Counts {
+        if verdict == engine::CLEAR {
             self.clear = more(self.clear);
         } else if verdict == engine::NONE {
             self.none = more(self.none);
@@ -88,6 +110,16 @@ impl Counts {
             self.spent = more(self.spent);
         }
         self
+    }
+
+    fn with_verdict(self, case: Case, verdict: u32) -> Counts {
+        if case.split {
+            return self.with_split(verdict);
+        }
+        if case.horn {
+            return self.with_horn(verdict);
+        }
+        self.with_ball(verdict)
     }
 
     fn with_budget(mut self) -> Counts {
@@ -112,6 +144,8 @@ fn print_counts(counts: Counts) {
     print_number(b"\nball clear ", counts.clear);
     print_number(b"\nball none ", counts.none);
     print_number(b"\nball spent ", counts.spent);
+    print_number(b"\nsplit clear ", counts.split_clear);
+    print_number(b"\nsplit none ", counts.split_none);
     print_number(b"\nbudgets ", counts.budgets);
     print_number(b"\ndisagreements ", counts.disagreements);
     io::write_all(STDOUT_FILENO, b"\n");
@@ -135,7 +169,11 @@ fn print_reply(reply: Reply) {
 // A run that disagrees.
 fn report(case: Case, budget: u32, reply: Reply, counts: Counts) -> Counts {
     print_pair(b"sheet ", case.number, b" budget ", budget);
-    print_pair(b" plan ", case.size, b" ", case.radius);
+    if case.split {
+        io::write_all(STDOUT_FILENO, b" split");
+    } else {
+        print_pair(b" plan ", case.size, b" ", case.radius);
+    }
     print_reply(reply);
     counts.with_disagreement()
 }
@@ -153,16 +191,23 @@ fn same(a: Reply, b: Reply) -> bool {
         && a.place == b.place
 }
 
+fn method(case: Case) -> u32 {
+    if case.split {
+        return 0;
+    }
+    if case.horn {
+        engine::HORN
+    } else {
+        engine::BALLS
+    }
+}
+
 // The sheets have so few variables that an assignment is its first word.
 fn counted(verdict: u32, case: Case, marks: u32, calls: u32) -> Reply {
     Reply {
         verdict,
         batch: case.batch,
-        road: if case.horn {
-            engine::HORN
-        } else {
-            engine::BALLS
-        },
+        road: method(case),
         marks0: marks,
         marks1: 0,
         marks2: 0,
@@ -173,16 +218,38 @@ fn counted(verdict: u32, case: Case, marks: u32, calls: u32) -> Reply {
     }
 }
 
+// The model that a clear answer has: the search in balls may find any, for `agrees` to try.
+fn model(case: Case, found: u32) -> u32 {
+    if case.split {
+        case.first
+    } else if case.horn {
+        case.least
+    } else {
+        found
+    }
+}
+
+// Every answer counts fewer calls.
+fn too_many(case: Case) -> u32
+    requires { ⌜ case .n ≤ 12 ⌝ }
+{
+    if case.split {
+        2u32 << case.n
+    } else if case.horn {
+        case.n + 2
+    } else {
+        BUDGET + 1
+    }
+}
+
 // The right answer to a first run that has these marks and calls.
 fn expected(case: Case, reply: Reply) -> Reply {
-    if reply.verdict == engine::SPENT && !case.horn {
+    if reply.verdict == engine::SPENT && !case.horn && !case.split {
         counted(engine::SPENT, case, 0, BUDGET)
-    } else if case.model && case.horn {
-        counted(engine::CLEAR, case, case.least, reply.calls)
-    } else if case.model {
-        counted(engine::CLEAR, case, reply.marks0, reply.calls)
-    } else {
+    } else if case.first == NO_MODEL {
         counted(engine::NONE, case, 0, reply.calls)
+    } else {
+        counted(engine::CLEAR, case, model(case, reply.marks0), reply.calls)
     }
 }
 
@@ -193,8 +260,7 @@ fn agrees(case: Case, reply: Reply, table: &[u32]) -> bool
     if !same(reply, expected(case, reply)) {
         return false;
     }
-    let most = if case.horn { case.n + 1 } else { BUDGET };
-    if reply.calls == 0 || most < reply.calls {
+    if reply.calls == 0 || too_many(case) <= reply.calls {
         return false;
     }
     if reply.verdict != engine::CLEAR {
@@ -203,9 +269,16 @@ fn agrees(case: Case, reply: Reply, table: &[u32]) -> bool
     reply.marks0 >> case.n == 0 && meets(reply.marks0, table, case.clauses)
 }
 
+fn asked(sheet: &[u8], case: Case, budget: u32) -> Reply {
+    if case.split {
+        return engine::split(budget, sheet);
+    }
+    engine::run(case.size, case.radius, budget, sheet)
+}
+
 // The sheet once more, with a budget whose answer is known.
 fn run_again(sheet: &[u8], case: Case, budget: u32, answer: Reply, counts: Counts) -> Counts {
-    let reply = engine::run(case.size, case.radius, budget, sheet);
+    let reply = asked(sheet, case, budget);
     if same(reply, answer) {
         return counts.with_budget();
     }
@@ -222,22 +295,22 @@ fn run_around(sheet: &[u8], case: Case, reply: Reply, counts: Counts) -> Counts 
     run_again(sheet, case, LARGEST_BUDGET, reply, at)
 }
 
-// All runs of a sheet.
+// All runs of a case.
 fn run_case(sheet: &[u8], table: &[u32], case: Case, counts: Counts) -> Counts
     requires { ⌜ (case .n ≤ 12) × (2 * case .clauses ≤ length (now table)) ⌝ }
 {
-    let reply = engine::run(case.size, case.radius, BUDGET, sheet);
+    let reply = asked(sheet, case, BUDGET);
     if !agrees(case, reply, table) {
         return report(case, BUDGET, reply, counts);
     }
-    let seen = counts.with_verdict(case.horn, reply.verdict);
+    let seen = counts.with_verdict(case, reply.verdict);
     if reply.verdict == engine::SPENT {
         return seen;
     }
     run_around(sheet, case, reply, seen)
 }
 
-// A sheet that ends at a byte, with the plan whose turn it is.
+// A sheet that ends at a byte, with the plan whose turn it is, and then by splitting.
 fn try_drawn(
     sheet: &[u8],
     end: usize,
@@ -253,18 +326,21 @@ fn try_drawn(
     let n = shape.n;
     let clauses = shape.clauses as usize;
     let size = 1 + number / 4 % 12;
-    let case = Case {
+    let mut case = Case {
         number,
+        split: false,
         size,
         radius: number / 48 % (size + 1),
         batch: shape.batch,
         n,
         clauses,
-        model: has_model(n, table, clauses),
+        first: first_model(n, table, clauses),
         horn: is_horn(table, clauses),
         least: in_all_models(n, table, clauses),
     };
-    run_case(&sheet[0..end], table, case, counts)
+    let by_plan = run_case(&sheet[0..end], table, case, counts);
+    case.split = true;
+    run_case(&sheet[0..end], table, case, by_plan)
 }
 
 // The next sheet.
