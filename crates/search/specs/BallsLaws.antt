@@ -22,18 +22,21 @@ use Rattle.tree.specs.Explore.{none, plus, try, call, explore}
 use Rattle.tree.specs.declared.Found.{Found}
 use Rattle.tree.specs.declared.Found.the-variants.{None}
 use Rattle.tree.specs.Budget.{Answer}
-use Rattle.tree.specs.BudgetLaws.{settle, onward, onward-none, onward-stops, none-made, rest-ends, rest-goes-on}
+use Rattle.tree.specs.BudgetLaws.{settle, none-made}
+use Rattle.tree.specs.Legs.{progress, turn}
+use Rattle.tree.specs.LegLaws.{leg-from, leg-ends, leg-goes-on}
 use Rattle.tree.specs.Machine.{answerIn}
 use Rattle.planes.specs.declared.Kind.the-variants.{Both}
 use Rattle.planes.specs.Machine.{planeCells, First, testOf, wanted}
+use Rattle.search.specs.declared.balls.Progress.{Progress}
 use Rattle.search.specs.declared.path.Path.{Path}
 use Rattle.search.specs.Ball.{State, reading, isTrue, isDead, ballTree, ballSearch}
-use Rattle.search.specs.Run.{Block, Search, ball, centreAt, centreCount, summedRadius}
+use Rattle.search.specs.Run.{Block, Search, ball, centreAt, centreCount, summedRadius, legOf}
 use Rattle.search.specs.ReadingLaws.{dead-false, dead-reading}
 use Rattle.search.specs.RuleLaws.{rule-dead}
 use Rattle.search.specs.ForcedLaws.{dead-centred, standing-centre}
 use Rattle.search.specs.CallLaws.{ball-some}
-use Rattle.search.specs.Machine.{stateIn, centred, callFrom, Shows, Standing, Forces, Toggles, Moves, Reaching, searchIn, ballsFrom, Before}
+use Rattle.search.specs.Machine.{stateIn, centred, callFrom, Shows, Standing, Forces, Toggles, Moves, Reaching, searchIn, ballsFrom, progressIn, Stops, Before}
 
 -- ---- one bit
 
@@ -153,21 +156,24 @@ module _ (k : ℕ) (cells : List ℕ) (bs : List Block) where
 
     module _ (planes : List ℕ) (m calls i : ℕ) (b : Before q k cells planes n m start budget calls i) where
       pub before-end : (left : ℕ) → 0 < centreCount bs → left ≡ i / centreCount bs → (left ≡ 0 → ⊥) →
-          Answer.none calls ≡ ballsFrom q budget 0 start
-      unfolding ballsFrom searchIn
+          progress (Answer.none calls) (centreCount bs) ≡ legOf q budget start
+      unfolding ballsFrom searchIn legOf
       before-end left some e z =
-          sym (rest-ends budget calls (ball q) (centreCount bs) i (ball-past bs i left some e z) (b .enough)) ∙ b .same
+          sym (leg-ends (ball q) budget (centreCount bs) calls i (ball-past bs i left some e z)) ∙ b .same ∙ sym (leg-from _ _ _ _)
 
       module _ (r : Found) (inside : i < centreCount bs) (gave : answerIn r ≡ settle budget calls (ball q i)) where
-        onwards : onward (answerIn r) (λ d. ballsFrom q budget d (i + 1)) ≡ ballsFrom q budget 0 start
+        onwards : turn (centreCount bs) i calls (answerIn r) (λ d. ballsFrom q budget d (i + 1)) ≡ ballsFrom q budget 0 start
         unfolding ballsFrom searchIn
-        onwards = rw gave (sym (rest-goes-on budget calls (ball q) (centreCount bs) i inside)) ∙ b .same
+        onwards = rw gave (sym (leg-goes-on (ball q) budget (centreCount bs) calls i inside)) ∙ b .same
 
-        pub before-stops : ((made : ℕ) → r ≡ None made → ⊥) → answerIn r ≡ ballsFrom q budget 0 start
-        before-stops h = sym (onward-stops r _ h) ∙ onwards
+        pub before-stops : (p : Progress) → Stops calls i r p → ((made : ℕ) → r ≡ None made → ⊥) →
+            progressIn (centreCount bs) p ≡ legOf q budget start
+        unfolding ballsFrom searchIn legOf
+        before-stops p h other = h .ends (centreCount bs) _ other ∙ onwards ∙ sym (leg-from _ _ _ _)
 
         pub before-next : (made : ℕ) → r ≡ None made → (planes′ : List ℕ) (m′ : ℕ) → length planes′ ≡ planeCells →
             Shows k cells (centred m′) planes′ → m′ < 2 ^ n → Before q k cells planes′ n m′ start budget made (i + 1)
+        unfolding turn answerIn
         before-next made f planes′ m′ e h l =
             let counted = none-made r budget calls made (ball q i) gave f in
             record {
@@ -176,5 +182,5 @@ module _ (k : ℕ) (cells : List ℕ) (bs : List Block) where
               below = l;
               each = omega (arith, counted .0, ball-some q i, b .each);
               enough = counted .1;
-              same = sym (onward-none r _ made f) ∙ onwards;
+              same = rw f at onwards;
             }

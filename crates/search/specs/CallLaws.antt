@@ -3,15 +3,18 @@ use mathlib.Core.Path.{_≡_, refl, sym, ap, _∙_}
 use mathlib.Core.Bool.{Bool, true, false, cond}
 use mathlib.Core.List.{List, [], _∷_}
 use Prim.Native.Nat.{ℕ, _+_, _-_, _≤_, _<_}
-use native.Mathlib.Nat.{sub-zero, zero-add}
+use native.Mathlib.Nat.{sub-zero}
+use native.Mathlib.Omega.{arith}
 use Rattle.words.specs.Lists.{every, keep}
 use Rattle.formula.specs.Formula.{Literal, Clause}
-use Rattle.tree.specs.Explore.{Outcome, found, none, calls, plus, after, try}
+use Rattle.tree.specs.Explore.{Outcome, none, calls, after, try}
 use Rattle.tree.specs.Budget.{Answer, clear, spent, answer}
-use Rattle.tree.specs.TreeLaws.{explore-some}
+use Rattle.tree.specs.TreeLaws.{plus-zero, explore-some}
 use Rattle.tree.specs.BudgetLaws.{settle, rest, settle-start, call-spent, call-clear, call-none, call-moves}
 use Rattle.search.specs.Ball.{State, isTrue, flip, Rule, ballTree, ballSearch}
-use Rattle.search.specs.Run.{Search, centreCount, ball, run}
+use Rattle.tree.specs.Legs.{Progress}
+use Rattle.tree.specs.LegLaws.{cut, leg-from, leg-answer}
+use Rattle.search.specs.Run.{Search, centreCount, ball, run, legOf}
 
 -- ---- a call
 
@@ -39,23 +42,17 @@ module _ (A c : ℕ) (cs : List Clause) (rule : Rule) (r : ℕ) (s : State) wher
 
 -- ---- the literals that are tried
 
--- nothing found before changes nothing
-after-none : (o : Outcome) → after (none 0) o ≡ o
-unfolding after plus
-after-none (found m c) = ap (found m) (zero-add c)
-after-none (none c) = ap none (zero-add c)
-
 -- To try those that are tried is to try each, where one that is not tried makes no call.
 pub try-tried : (s : Literal → Outcome) (p : Literal → Bool) (ls : List Literal) →
     try s (keep p ls) ≡ try (λ l. cond (p l) (s l) (none 0)) ls
-unfolding try keep
+unfolding try keep after
 try-tried s p [] = refl
 try-tried s p (l ∷ ls) = go (p l) (try-tried s p ls)
   where
     go : (b : Bool) → try s (keep p ls) ≡ try (λ l′. cond (p l′) (s l′) (none 0)) ls →
         try s (cond b (l ∷ keep p ls) (keep p ls)) ≡ after (cond b (s l) (none 0)) (try (λ l′. cond (p l′) (s l′) (none 0)) ls)
     go true below = ap (after (s l)) below
-    go false below = below ∙ sym (after-none _)
+    go false below = below ∙ sym (plus-zero _)
 
 -- ---- the balls
 
@@ -65,9 +62,14 @@ unfolding ball ballSearch
 ball-some q i = explore-some (ballTree (q .clauses) (q .rule)) _ _
 
 -- The run is the balls from the first on.
-run-rest : (q : Search) → run q ≡ rest (ball q) (centreCount (q .blocks)) 0
+pub run-rest : (q : Search) → run q ≡ rest (ball q) (centreCount (q .blocks)) 0
 unfolding run rest
 run-rest q = rw sub-zero
 
-pub answer-balls : (A : ℕ) (q : Search) → answer A (run q) ≡ settle A 0 (rest (ball q) (centreCount (q .blocks)) 0)
-answer-balls A q = rw (run-rest q) (sym (settle-start A _))
+-- Its answer is that of the leg from the first ball on, where spent counts the whole budget.
+pub answer-balls : (A : ℕ) (q : Search) → answer A (run q) ≡ cut A (legOf q A 0 .answer)
+unfolding legOf
+answer-balls A q =
+    rw (run-rest q) (sym (settle-start A _))
+    ∙ leg-answer (ball q) A (centreCount (q .blocks)) 0 0 (omega arith) (omega arith)
+    ∙ ap (λ (p : Progress). cut A (p .answer)) (sym (leg-from (ball q) A (centreCount (q .blocks)) 0))

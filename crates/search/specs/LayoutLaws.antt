@@ -192,26 +192,27 @@ replicate-same (suc k) a b h = ap (λ (x : Block). replicate (suc k) x) (h (omeg
 
 module _ (n size radius : ℕ) (l : Layout) (whole last : List ℕ) where
   pub laid-out : l .size ≡ size → l .radius ≡ radius → l .whole ≡ n / size → l .last ≡ n % size →
-      n ≤ width → 1 ≤ size →
+      n ≤ width → 1 ≤ size → radius ≤ size →
       BlockCode (l .whole) size radius (l .count) whole →
       BlockCode (l .last) (l .last) (min radius (l .last)) (l .«last_count») last → LaidOut n size radius l whole last
   unfolding blocksIn lastIn blocks shortBlock
-  laid-out e f g h small some w w′ =
+  laid-out e f g h small some within w w′ =
       let all : n ≡ l .whole * l .size + l .last = rw (e, g, h) (sym (div-add-mod' n size)) in
       let wholes = replicate-same (l .whole) _ _ (λ z. words-block size radius (l .count) whole (w .words z)) in
+      let inside : l .whole * l .radius ≤ l .whole * l .size = mul-le-mul-left (l .whole) (rw (e, f) within) in
       record {
-        wholes = w .size;
-        lasts = w′ .size;
-        laid = record {
-          size = rw e some;
-          fits = omega arith;
-          wholes = λ z. rw e (words-coded size radius (l .count) whole (w .words z));
-          lasts = λ z. words-coded (l .last) short (l .«last_count») last (w′ .words z);
+        laying = record {
+          wholes = w .size;
+          lasts = w′ .size;
+          laid = record {
+            size = rw e some;
+            fits = omega arith;
+            wholes = λ z. rw e (words-coded size radius (l .count) whole (w .words z));
+            lasts = λ z. words-coded (l .last) short (l .«last_count») last (w′ .words z);
+          };
+          variables = all;
+          reach = omega arith;
         };
-        variables = all;
-        reach = λ z.
-            let h′ : l .whole * l .radius ≤ l .whole * l .size = mul-le-mul-left (l .whole) (rw (e, f) z) in
-            omega arith;
         same = rw (e, f, ← g, ← h) (ap₂ (λ (xs ys : List Block). xs ++ ys) wholes (last-same (eqb (l .last) 0) refl));
       }
     where

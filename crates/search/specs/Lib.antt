@@ -1,4 +1,4 @@
--- The crate search. What a reader must believe: Ball (the search in one ball) and Run (blocks, centres, run). Machine says how the
+-- The crate search. What a reader must believe: Ball (the search in one ball) and Run (blocks, centres, run, legs). Machine says how the
 -- machine's data are read; the others are laws.
 pub mod Ball
 pub mod Run

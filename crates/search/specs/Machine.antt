@@ -13,12 +13,16 @@ use Rattle.words.specs.Machine.{bitsOf, setOf}
 use Rattle.formula.specs.Formula.{Literal, bitOf, met, names, literalOf}
 use Rattle.formula.specs.Machine.{Table, IsLiteral, held, clauseAt, lengthAt}
 use Rattle.tree.specs.declared.Found.{Found}
+use Rattle.tree.specs.declared.Found.the-variants.{None}
 use Rattle.tree.specs.Explore.{Outcome, none, try}
-use Rattle.tree.specs.Budget.{Answer}
-use Rattle.tree.specs.BudgetLaws.{settle, rest}
+use Rattle.tree.specs.Budget.{Answer, clear, spent}
+use Rattle.tree.specs.BudgetLaws.{settle}
+use Rattle.tree.specs.Legs as Legs
+use Rattle.tree.specs.LegLaws.{legFrom}
 use Rattle.tree.specs.Machine.{answerIn}
 use Rattle.planes.specs.declared.Kind.the-variants.{Lone}
 use Rattle.planes.specs.Machine.{firstCounter, secondCounter, planeCells, First, wanted, Occurs, Counts}
+use Rattle.search.specs.declared.balls.Progress.{Progress}
 use Rattle.search.specs.declared.path.Path.{Path}
 use Rattle.search.specs.declared.reading.Reading.{Reading as ClauseReading}
 use Rattle.search.specs.Ball.{State, Reading, reading, isTrue, isDead, isFlipped, isOpen, hasLoneOpposite, meetsL, flip, isTried, select, skip, rule, ballSearch}
@@ -246,14 +250,22 @@ pub record BlockCode (some t s r : ℕ) (cells : List ℕ) : Type 0 where
   pub size : length cells ≡ codeCells
   pub words : 0 < some → Words t s r cells
 
--- The layout is laid, and has the n variables and the plan's blocks.
-pub record LaidOut (n size radius : ℕ) (l : Layout) (whole last : List ℕ) : Type 0 where
+-- What the balls are laid out by: the layout of n variables, with its codes.
+pub record Laying (n : ℕ) (l : Layout) (whole last : List ℕ) : Type 0 where
   pub wholes : length whole ≡ codeCells
   pub lasts : length last ≡ codeCells
   pub laid : Laid l whole last
   pub variables : n ≡ l .whole * l .size + l .last
-  pub reach : radius ≤ size → l .whole * l .radius + min (l .radius) (l .last) ≤ width
+  pub reach : l .whole * l .radius + min (l .radius) (l .last) ≤ width
+
+-- and its blocks are the plan's
+pub record LaidOut (n size radius : ℕ) (l : Layout) (whole last : List ℕ) : Type 0 where
+  pub laying : Laying n l whole last
   pub same : blocksIn l whole last ≡ blocks code (plan size radius) n
+
+-- M of a layout and its codes
+abbrev pub extent : Layout → List ℕ → List ℕ → ℕ
+extent l whole last = centreCount (blocksIn l whole last)
 
 -- ---- the balls
 
@@ -267,24 +279,36 @@ unfoldable pub searchIn : ℕ → List ℕ → List Block → Search
 searchIn k cells bs = record { clauses = held k cells; rule = rule (held k cells); blocks = bs }
 
 -- what the balls from i on give, where c calls are counted before them
-unfoldable pub ballsFrom : Search → ℕ → ℕ → ℕ → Answer
-ballsFrom q budget c i = settle budget c (rest (ball q) (centreCount (q .blocks)) i)
+unfoldable pub ballsFrom : Search → ℕ → ℕ → ℕ → Legs.Progress
+ballsFrom q budget c i = legFrom (ball q) budget (centreCount (q .blocks)) c i
+
+-- the ball that is next of E, where the machine says i: after clear and none that is E, whatever it says
+unfoldable pub nextIn : (E i : ℕ) → Answer → ℕ
+nextIn E i (clear m c) = E
+nextIn E i (Answer.none c) = E
+nextIn E i (spent c) = i
+
+-- the machine's leg over E balls as the definition's
+unfoldable pub progressIn : ℕ → Progress → Legs.Progress
+progressIn E p = Legs.progress (answerIn (p .found)) (nextIn E (p .next) (answerIn (p .found)))
+
+-- Where a ball does not find nothing the leg ends at it, as `turn` has it.
+pub record Stops (calls i : ℕ) (found : Found) (r : Progress) : Type 0 where
+  pub ends : (E : ℕ) (onward : ℕ → Legs.Progress) → ((made : ℕ) → found ≡ None made → ⊥) →
+      progressIn E r ≡ Legs.turn E i calls (answerIn found) onward
 
 -- r flips give what the whole radius gives, at every centre; and where there are any, no clause is dead.
 pub record Reaching (k : ℕ) (cells : List ℕ) (radius r : ℕ) : Type 0 where
   pub same : (m : ℕ) → callFrom k cells r (centred m) ≡ callFrom k cells radius (centred m)
   pub alive : 0 < r → (m i : ℕ) → i < k → isDead (centred m) (clauseAt cells i) ≡ false
 
--- What the loop over the balls is given: the planes of the assignment 0, the layout of n variables with its codes, the flips of a
--- ball, and the number of the ball to start at.
+-- What the loop over the balls is given: the planes of the assignment 0, the layout with its codes, the flips of a ball, and the
+-- number of the ball to start at.
 pub record Prepared (k : ℕ) (cells occ planes : List ℕ) (n : ℕ) (l : Layout) (whole last : List ℕ) (r i : ℕ) : Type 0 where
   pub ready : Ready k cells occ
   pub size : length planes ≡ planeCells
   pub shows : Shows k cells (centred 0) planes
-  pub wholes : length whole ≡ codeCells
-  pub lasts : length last ≡ codeCells
-  pub laid : Laid l whole last
-  pub variables : n ≡ l .whole * l .size + l .last
+  pub laying : Laying n l whole last
   pub reach : Reaching k cells (summedRadius (blocksIn l whole last)) r
   pub start : i < 2 ^ 63
 

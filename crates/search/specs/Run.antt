@@ -7,6 +7,7 @@ use lib.ListN.{length, getD, replicate}
 use Rattle.words.specs.Lists.{span}
 use Rattle.formula.specs.Formula.{Clause, Formula}
 use Rattle.tree.specs.Explore.{Outcome, try}
+use Rattle.tree.specs.Legs.{Progress, leg}
 use Rattle.search.specs.Ball.{Rule, rule, ballSearch}
 
 -- ---- the blocks and their centres
@@ -76,6 +77,10 @@ ball q i = ballSearch (q .clauses) (q .rule) (summedRadius (q .blocks)) (record 
 -- The run: ball after ball, up to the first found.
 unfoldable pub run : Search → Outcome
 run q = try (ball q) (span 0 (centreCount (q .blocks)))
+
+-- The leg from ball i on, within the budget A: whole balls, as many as it can finish (02, paper 11).
+unfoldable pub legOf : Search → (A i : ℕ) → Progress
+legOf q A i = leg (ball q) A (centreCount (q .blocks)) i
 
 -- ---- the bounds on its calls
 

@@ -18,9 +18,9 @@ ghost use Prim.Native.Nat.{ℕ, _^_, _≤_, _<_};
 ghost use lib.ListN.{length};
 ghost use Rattle.words.specs.Bits.{toggle, width};
 ghost use Rattle.words.specs.Machine.{bitsOf};
-ghost use Rattle.tree.specs.Machine.{answerIn};
 ghost use Rattle.planes.specs.Machine.{laneCount, planeCells};
-ghost use Rattle.search.specs.Machine.{centred, Ready, Shows, blocksIn, Moves, Reaching, Prepared, searchIn, ballsFrom};
+ghost use Rattle.search.specs.Run.{legOf};
+ghost use Rattle.search.specs.Machine.{centred, Ready, Shows, blocksIn, extent, Moves, Reaching, Prepared, Stops, searchIn, progressIn};
 
 // One bit: the planes of `at` become those of the answer, which is `at` with bit v toggled.
 fn toggle_bit(
@@ -76,8 +76,29 @@ pub fn flips(occ: &[u64; OCCURRENCES], k: usize, planes: &[u64; PLANES], radius:
     }
 }
 
-// The balls from `start` on in order, up to the first that finds a model or to the budget. The
-// planes come in as those of the assignment 0.
+// What some balls come to within a budget. Where that is spent, the ball that did not fit is `next`,
+// and not counted; elsewhere `next` says nothing.
+pub struct Progress {
+    pub found: Found,
+    pub next: u64,
+}
+
+// What the balls come to where ball i ends them, with so many calls before it.
+fn stopped(found: Found, calls: u32, i: u64) -> Progress
+    ensures { λ r. ⌜ Stops calls i found r ⌝ }
+{
+    match found {
+        Found::Clear(_, _) => Progress { found, next: i },
+        Found::None(_) => Progress { found, next: i },
+        Found::Spent(_) => Progress {
+            found: Found::Spent(calls),
+            next: i,
+        },
+    }
+}
+
+// The balls from `start` on in order, up to the first that finds a model or does not fit into the
+// budget. The planes come in as those of the assignment 0.
 pub fn balls(
     cells: &[u32; formula::CELLS],
     occ: &[u64; OCCURRENCES],
@@ -90,10 +111,10 @@ pub fn balls(
     reach: u32,
     start: u64,
     budget: u32,
-) -> Found
+) -> Progress
     requires { ⌜ Prepared k (now cells) (now occ) (now planes) n layout (now whole) (now last) reach start ⌝ }
-    ensures { λ r. ⌜ answerIn r ≡
-        ballsFrom (searchIn k (now (cells .entry)) (blocksIn layout (now (whole .entry)) (now (last .entry)))) budget 0 start ⌝ }
+    ensures { λ r. ⌜ progressIn (extent layout (now (whole .entry)) (now (last .entry))) r ≡
+        legOf (searchIn k (now (cells .entry)) (blocksIn layout (now (whole .entry)) (now (last .entry)))) budget start ⌝ }
 {
     let mut at = Assignment::zero();
     let mut calls = 0;
@@ -111,11 +132,14 @@ pub fn balls(
         let from = force(occ, k, NO_LITERAL, planes, path);
         let found = call(cells, occ, k, planes, from, reach, calls, budget);
         let Found::None(made) = found else {
-            return found;
+            return stopped(found, calls, i);
         };
         calls = made;
         i += 1;
         next = centre(layout, whole, last, i);
     }
-    Found::None(calls)
+    Progress {
+        found: Found::None(calls),
+        next: i,
+    }
 }

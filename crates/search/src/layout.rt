@@ -33,7 +33,7 @@ pub fn lay_out(
     whole: &mut [u16; code::CELLS],
     last: &mut [u16; code::CELLS],
 ) -> Layout
-    requires { ⌜ (n ≤ width) × (1 ≤ size) × (size ≤ 12) ⌝ }
+    requires { ⌜ (n ≤ width) × (1 ≤ size) × (size ≤ 12) × (radius ≤ size) ⌝ }
     requires { ⌜ (length (now whole) ≡ codeCells) × (length (now last) ≡ codeCells) ⌝ }
     ensures { λ r. ⌜ LaidOut n size radius r (now (whole .exit)) (now (last .exit)) ⌝ }
 {

@@ -4,7 +4,7 @@ use mathlib.Core.Logic.{_⊎_, inl, inr, ⊎-elim}
 use mathlib.Core.Bool.{Bool, true, false, cond}
 use mathlib.Core.List.{List, [], _∷_}
 use Prim.Native.Nat.{ℕ, zero, suc, _+_, _-_, _≤_, _<_}
-use native.Mathlib.Nat.{add-zero, zero-add, add-assoc, sub-eq-zero-of-le}
+use native.Mathlib.Nat.{add-zero, add-assoc, sub-eq-zero-of-le}
 use native.Mathlib.Numerals.{sub-one, add-one}
 use native.Mathlib.Omega.{arith}
 use lib.Dec.{leb}
@@ -17,7 +17,7 @@ use Rattle.tree.specs.Budget.{Answer, clear, spent, whole, answer}
 use Rattle.tree.specs.declared.Found.{Found}
 use Rattle.tree.specs.declared.Found.the-variants.{Clear, None, Spent}
 use Rattle.tree.specs.Machine.{answerIn}
-use Rattle.tree.specs.TreeLaws.{calls-plus, explore-some}
+use Rattle.tree.specs.TreeLaws.{calls-plus, plus-zero, explore-some}
 
 -- ---- an answer by its parts
 
@@ -57,6 +57,15 @@ pub count-whole : (o : Outcome) → countOf (whole o) ≡ calls o
 unfolding countOf whole calls
 count-whole (found m c) = refl
 count-whole (Outcome.none c) = refl
+
+-- no answer counts more than the budget
+pub answer-count : (A : ℕ) (o : Outcome) (a : Answer) → answer A o ≡ a → countOf a ≤ A
+unfolding countOf
+answer-count A o a e =
+    ⊎-elim
+    (λ w. omega (arith, ap countOf (w .1), count-whole o))
+    (λ w. omega (arith, ap countOf (w .1)))
+    (answer-is A o a e)
 
 whole-clear : (o : Outcome) (m c : ℕ) → whole o ≡ clear m c → o ≡ found m c
 unfolding whole
@@ -98,7 +107,7 @@ onward (clear m c) next = clear m c
 onward (Answer.none c) next = next c
 onward (spent c) next = spent c
 
-plus-plus : (c d : ℕ) (o : Outcome) → plus c (plus d o) ≡ plus (c + d) o
+pub plus-plus : (c d : ℕ) (o : Outcome) → plus c (plus d o) ≡ plus (c + d) o
 unfolding plus
 plus-plus c d (found m e) = ap (found m) (sym (add-assoc c d e))
 plus-plus c d (Outcome.none e) = ap Outcome.none (sym (add-assoc c d e))
@@ -109,9 +118,8 @@ settle-none A c h = answer-whole A (Outcome.none (c + 0)) (omega arith) ∙ ap A
 
 -- with nothing counted before
 pub settle-start : (A : ℕ) (o : Outcome) → settle A 0 o ≡ answer A o
-unfolding settle plus
-settle-start A (found m c) = ap (λ (x : ℕ). answer A (found m x)) (zero-add c)
-settle-start A (Outcome.none c) = ap (λ (x : ℕ). answer A (Outcome.none x)) (zero-add c)
+unfolding settle
+settle-start A o = ap (answer A) (plus-zero o)
 
 module _ (A c : ℕ) where
   -- after d calls more
@@ -235,11 +243,3 @@ unfolding rest
 rest-step s E i h =
     let e : E - i ≡ suc (E - (i + 1)) = omega arith in
     rw (e, add-one i) (unfold span try in refl)
-
-module _ (A : ℕ) where
-  pub rest-ends : (c : ℕ) (s : ℕ → Outcome) (E i : ℕ) → E ≤ i → c ≤ A → settle A c (rest s E i) ≡ Answer.none c
-  rest-ends c s E i h l = rw (rest-end s E i h) (settle-none A c l)
-
-  pub rest-goes-on : (c : ℕ) (s : ℕ → Outcome) (E i : ℕ) → i < E →
-      settle A c (rest s E i) ≡ onward (settle A c (s i)) (λ d. settle A d (rest s E (i + 1)))
-  rest-goes-on c s E i h = rw (rest-step s E i h) (settle-after A c (s i) (rest s E (i + 1)))

@@ -47,7 +47,7 @@ pub record Correct (n : ℕ) (cs : List Clause) (needed A : ℕ) (a : Answer) : 
 
 module _ (n : ℕ) (cs : List Clause) (o : Outcome) (decides : Decides n cs o) where
   -- an outcome without an assignment: no assignment meets every clause
-  none-unsat : (c : ℕ) → o ≡ Outcome.none c → Satisfiable n cs → ⊥
+  pub none-unsat : (c : ℕ) → o ≡ Outcome.none c → Satisfiable n cs → ⊥
   none-unsat c e s = let (m, d, g) = decides .complete s in apart (cc)
 
   sat-clear : Satisfiable n cs → IsClear (whole o)

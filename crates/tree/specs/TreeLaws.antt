@@ -4,7 +4,7 @@ use mathlib.Core.Logic.{_⊎_, inl, inr, ⊎-elim}
 use mathlib.Core.Bool.{Bool, true, false}
 use mathlib.Core.List.{List, [], _∷_, List·Memᴰ·head, List·Memᴰ·tail, List·Memᴰ·not-nil, List·Memᴰ·cases-cons}
 use Prim.Native.Nat.{ℕ, zero, suc, _+_, _*_, _^_, _≤_}
-use native.Mathlib.Nat.{le-refl, le-trans, le-of-suc-le-suc, add-zero, zero-mul, one-mul, mul-add, mul-le-mul-right, pow-zero, pow-suc, mul-comm}
+use native.Mathlib.Nat.{le-refl, le-trans, le-of-suc-le-suc, add-zero, zero-add, zero-mul, one-mul, mul-add, mul-le-mul-right, pow-zero, pow-suc, mul-comm}
 use native.Mathlib.Numerals.{add-one}
 use native.Mathlib.Omega.{arith}
 use lib.ListN.{length}
@@ -26,6 +26,11 @@ pub calls-plus : (c : ℕ) (o : Outcome) → calls (plus c o) ≡ c + calls o
 unfolding calls plus
 calls-plus c (found m d) = refl
 calls-plus c (none d) = refl
+
+pub plus-zero : (o : Outcome) → plus 0 o ≡ o
+unfolding plus
+plus-zero (found m c) = ap (found m) (zero-add c)
+plus-zero (none c) = ap none (zero-add c)
 
 plus-gives : (c : ℕ) (o : Outcome) (m d : ℕ) → plus c o ≡ found m d → Gives o m
 unfolding plus
@@ -52,6 +57,12 @@ after-calls : (o p : Outcome) → calls (after o p) ≤ calls o + calls p
 unfolding after calls
 after-calls (found m c) p = omega arith
 after-calls (none c) p = omega (arith, calls-plus c p)
+
+-- the first one's calls count
+pub after-least : (o p : Outcome) → calls o ≤ calls (after o p)
+unfolding after calls
+after-least (found m c) p = le-refl c
+after-least (none c) p = omega (arith, calls-plus c p)
 
 -- nothing found afterwards changes nothing
 pub after-nothing : (o : Outcome) → after o (none 0) ≡ o

@@ -8,7 +8,7 @@ use borrow.Author.Needs.{needs}
 use Rattle.words.specs.Machine.{bitsOf}
 use Rattle.search.specs.Run.{Block, Search, ball, centreCount}
 use Rattle.tree.specs.BudgetLaws.{settle}
-use Rattle.search.specs.Machine.{Towards, blocksIn, stateIn, centred, callFrom, Before, searchIn}
+use Rattle.search.specs.Machine.{Towards, blocksIn, stateIn, centred, callFrom, Before, searchIn, progressIn, nextIn}
 use Rattle.search.specs.LayoutLaws.{towards-end, laid-some}
 use Rattle.tree.specs.Machine.{answerIn}
 use Rattle.search.specs.MachineLaws.{not-none}
@@ -29,7 +29,7 @@ zero-requires : tie.Need-zero-requires Inv-loop μ-loop
 zero-requires c κs = search needs
 
 centre-requires : tie.Need-centre-requires Inv-loop μ-loop
-centre-requires c κs = let p = c .before .pre in (p .laid, (p .wholes, p .lasts))
+centre-requires c κs = let p = c .before .pre in (p .laying .laid, (p .laying .wholes, p .laying .lasts))
 
 loop-holds : tie.Need-loop-holds Inv-loop μ-loop
 loop-holds c =
@@ -37,7 +37,7 @@ loop-holds c =
     let zero = c .before .zero .ensures in (
       rw zero (before-start _ _ _ _ _ _ _ (p .size) (p .shows)),
       c .centre .ensures .0,
-      c .centre .ensures .1 ∙ sym (p .variables),
+      c .centre .ensures .1 ∙ sym (p .laying .variables),
     )
 
 recentre-requires : tie.Need-recentre-requires Inv-loop μ-loop
@@ -45,7 +45,7 @@ recentre-requires c κs =
     let turn = c .before .before .before .before in
     let p = turn .before .before .before .pre in
     let inv = turn .loop .inv in (
-      (p .ready .table .room, omega (arith, p .laid .fits, p .variables), inv .0 .size),
+      (p .ready .table .room, omega (arith, p .laying .laid .fits, p .laying .variables), inv .0 .size),
       (inv .0 .below, rw (inv .2) at (inv .1 .below)),
     )
 
@@ -83,7 +83,7 @@ module _ (c : tie.After-force Inv-loop μ-loop) where
   there : turn .loop .i < centreCount blocks-of
   there =
       let left = towards-end blocks-of _ _ (turn .loop .inv .1) .1 in
-      ball-there blocks-of _ _ (laid-some _ _ _ (entry .pre .laid)) left (recentred .before .before .before .if1 .taken)
+      ball-there blocks-of _ _ (laid-some _ _ _ (entry .pre .laying .laid)) left (recentred .before .before .before .if1 .taken)
 
   -- the call is at the centre: so is the path that is made, and what is forced changes no state
   came : stateIn (record {
@@ -124,11 +124,15 @@ gave c =
 enum-known-found : tie.Need-enum-known-found Inv-loop μ-loop
 enum-known-found c = c .match .keys1
 
+stopped-requires : tie.Need-stopped-requires Inv-loop μ-loop
+stopped-requires c κs = search needs
+
 returns : tie.Need-returns Inv-loop μ-loop
 returns c =
-    let d = c .before in
+    let d = c .before .before in
     let f = d .before .before in
-    before-stops _ _ _ _ _ _ _ _ _ _ (turn f .loop .inv .0) (d .call .result) (there f) (gave d) (not-none _ (c .match .keys2))
+    before-stops _ _ _ _ _ _ _ _ _ _ (turn f .loop .inv .0) (d .call .result) (there f) (gave d) _ (c .stopped .ensures)
+    (not-none _ (c .before .match .keys2))
 
 add-i : tie.Need-add-i Inv-loop μ-loop
 add-i c =
@@ -137,7 +141,7 @@ add-i c =
     omega (arith, b .each, b .enough, entry f .pre .start, entry f .fits .budget)
 
 centre-requires-2 : tie.Need-centre-requires-2 Inv-loop μ-loop
-centre-requires-2 c κs = let p = entry (c .before .before .before .before .before) .pre in (p .laid, (p .wholes, p .lasts))
+centre-requires-2 c κs = let p = entry (c .before .before .before .before .before) .pre in (p .laying .laid, (p .laying .wholes, p .laying .lasts))
 
 loop-less : tie.Need-loop-less Inv-loop μ-loop
 loop-less c = omega (arith, there (c .before .before .before .before .before .before))
@@ -154,14 +158,14 @@ loop-again c =
     let e = c .before .before .found .given in (
       before-next _ _ _ _ _ _ _ _ _ _ (inv .0) (d .call .result) (there f) (gave d) (e .0 .0) (e .1) _ _ (moved .size) shown below,
       c .centre2 .ensures .0,
-      c .centre2 .ensures .1 ∙ sym (p .variables),
+      c .centre2 .ensures .1 ∙ sym (p .laying .variables),
     )
 
 returns-2 : tie.Need-returns-2 Inv-loop μ-loop
-unfolding answerIn
+unfolding answerIn progressIn nextIn
 returns-2 c =
     let inv = c .before .before .loop .inv in
-    let some = laid-some _ _ _ (c .before .before .before .before .before .pre .laid) in
+    let some = laid-some _ _ _ (c .before .before .before .before .before .pre .laying .laid) in
     before-end _ _ _ _ _ _ _ _ _ _ (inv .0) _ some (towards-end _ _ _ (inv .1) .1) (c .if1 .left)
 
 pub balls-spec : {M : Type 1} → statement M
@@ -179,6 +183,7 @@ balls-spec =
     force-requires
     call-requires
     enum-known-found
+    stopped-requires
     returns
     add-i
     centre-requires-2

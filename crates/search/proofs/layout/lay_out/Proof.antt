@@ -30,7 +30,7 @@ returns c =
     let s = c .before .before .before .before .before in
     let wholes = c .before .before .before .block-code .ensures in
     let lasts = rw (c .before .before .least .ensures) at (c .block-code2 .ensures) in
-    laid-out (s .args .n) (s .args .size) (s .args .radius) _ _ _ refl refl refl refl (s .pre .0 .0) (s .pre .0 .1) wholes lasts
+    laid-out (s .args .n) (s .args .size) (s .args .radius) _ _ _ refl refl refl refl (s .pre .0 .0) (s .pre .0 .1) (s .pre .0 .3) wholes lasts
 
 pub lay-out-spec : {M : Type 1} → statement M
 lay-out-spec = tie.close (tie.spec div-blocks rem-rest block-code-requires least-requires block-code-requires-2 returns)
