@@ -12,10 +12,11 @@ static uint32_t below(uint32_t n)
     return (uint32_t)(state >> 16) % n;
 }
 
+/* The program's own seconds on a core, so that a busy machine matters less. */
 static double seconds(void)
 {
     struct timespec t;
-    clock_gettime(CLOCK_MONOTONIC, &t);
+    clock_gettime(CLOCK_PROCESS_CPUTIME_ID, &t);
     return t.tv_sec + t.tv_nsec * 1e-9;
 }
 
@@ -145,6 +146,13 @@ static void make_near(uint32_t n, uint32_t count, uint32_t c, uint32_t reach)
     }
 }
 
+static void fail(const char *why)
+{
+    fflush(stdout);
+    fprintf(stderr, "%s\n", why);
+    exit(1);
+}
+
 static const char *verdicts[] = { "refused", "clear", "none", "spent" };
 
 /* Who decides: the library, plain C as the papers are worded, or the fastest plain C found, by vectors in balls, by watches in rounds and by sets of
@@ -212,6 +220,95 @@ static int search(const struct plain *plain, const char *what, uint32_t b, uint3
            verdicts[replies[LIBRARY].verdict], calls, ours, ours / calls * 1e9, worded * 1e9, ours / calls / worded, theirs,
            theirs / calls * 1e9, ours / theirs, same ? "" : "  DIFFERENT ANSWERS");
     return same;
+}
+
+/* One leg, by the library or by plain C, and the record moved on. */
+static struct reply one_leg(int who, const struct plain *plain, uint32_t budget, struct checkpoint *record)
+{
+    struct plain_record theirs = { record->batch, record->n, record->block_length, record->radius, record->next };
+    struct plain_answer answer;
+    struct reply reply;
+    if (who == LIBRARY) {
+        struct leg_reply ours = leg(record->block_length, record->radius, budget, bytes, length, record);
+        memcpy(&reply, &ours, sizeof reply);
+        return reply;
+    }
+    int verdict = plain->leg(theirs.b, theirs.s, budget, bytes, length, who == FASTEST, &theirs, &answer);
+    record->next = theirs.next;
+    return reply_of(verdict, answer.horn ? ENGINE_HORN : ENGINE_BALLS, &answer);
+}
+
+/* Legs of one search: the last one's reply with the calls of all, and a checksum of each leg's calls and next ball. */
+struct walk {
+    struct reply reply;
+    uint32_t legs;
+    uint64_t checksum;
+    double took;
+};
+
+/* A search from its start in legs of a budget, until there is a verdict, or so many legs. */
+static struct walk in_legs(int who, const struct plain *plain, uint32_t b, uint32_t s, uint32_t budget, uint32_t most)
+{
+    struct checkpoint record = { 1, bytes[8], b, s, 0 };
+    struct walk walk = { .legs = 0 };
+    uint32_t calls = 0;
+    double at = seconds();
+    do {
+        uint64_t from = record.next;
+        walk.reply = one_leg(who, plain, budget, &record);
+        walk.legs++;
+        walk.checksum = (walk.checksum * 31 + walk.reply.calls) * 31 + record.next;
+        calls += walk.reply.calls;
+        if (record.next == from) fail("a leg gets past no ball");
+    } while (walk.reply.verdict == ENGINE_SPENT && walk.legs < most);
+    walk.took = seconds() - at;
+    walk.reply.calls = calls;
+    return walk;
+}
+
+/* A search by one run, and in legs of a budget by the library and by plain C, in turn: the least of six, plain C's of three. The legs must come to
+   what the run does, and plain C's must be the same one by one. Plain C as worded goes through the first legs only, of some 200,000 calls, once. */
+static int legs(const struct plain *plain, const char *what, uint32_t b, uint32_t s, uint32_t budget)
+{
+    double whole = 1e9, part = 1e9, best[] = { 1e9, 1e9, 1e9 };
+    struct reply reply;
+    struct walk walks[3], ours, theirs;
+    for (int i = 0; i < 9; i++) {
+        int who = i % 3 == 2 ? FASTEST : LIBRARY;
+        double took = who == LIBRARY ? timed(LIBRARY, plain, b, s, 4294967295u, &reply) : whole;
+        if (took < whole) whole = took;
+        walks[who] = in_legs(who, plain, b, s, budget, 4294967295u);
+        if (walks[who].took < best[who]) best[who] = walks[who].took;
+        if (!agree(&walks[who].reply, &reply)) fail("legs do not come to what one run does");
+    }
+    uint32_t first = 1 + 200000 / budget;
+    theirs = in_legs(WORDED, plain, b, s, budget, first);
+    for (int i = 0; i < 6; i++) {
+        ours = in_legs(LIBRARY, plain, b, s, budget, first);
+        if (ours.took < part) part = ours.took;
+    }
+    int same = walks[LIBRARY].checksum == walks[FASTEST].checksum && ours.checksum == theirs.checksum;
+    printf("%-44s %-6s %4u legs of %6u  %7.3f s  run %7.3f s  ratio %6.2f  plain, %3u legs, ratio %6.3f  vectors %7.3f s  ratio %.2f%s\n", what,
+           verdicts[reply.verdict], walks[LIBRARY].legs, budget, best[LIBRARY], whole, best[LIBRARY] / whole, ours.legs, part / theirs.took,
+           best[FASTEST], best[LIBRARY] / best[FASTEST], same ? "" : "  DIFFERENT ANSWERS");
+    return same;
+}
+
+/* A leg without a call: what each leg takes before its first, to read the sheet and to make codes and tables. The least of three means of 20. */
+static int leg_ready(const struct plain *plain, const char *what, uint32_t b, uint32_t s)
+{
+    struct checkpoint record = { 1, bytes[8], b, s, 0 };
+    double best[] = { 1e9, 1e9, 1e9 };
+    int ok = 1;
+    for (int i = 0; i < 9; i++) {
+        double at = seconds();
+        for (int j = 0; j < 20; j++) ok &= one_leg(i % 3, plain, 0, &record).verdict == ENGINE_SPENT && record.next == 0;
+        double took = (seconds() - at) / 20;
+        if (took < best[i % 3]) best[i % 3] = took;
+    }
+    printf("%-44s %8.1f us  plain %8.1f us  ratio %5.2f  vectors %8.1f us  ratio %5.2f%s\n", what, best[LIBRARY] * 1e6, best[WORDED] * 1e6,
+           best[LIBRARY] / best[WORDED], best[FASTEST] * 1e6, best[LIBRARY] / best[FASTEST], ok ? "" : "  DIFFERENT ANSWERS");
+    return ok;
 }
 
 /* Microseconds of a run, the mean of 200. */
@@ -399,8 +496,15 @@ static int rows_32(void)
     make(32, 160, 3);
     int ok = search(narrow, "n 32, 160 clauses of 3, plan 11, 3", 11, 3, 4294967295u);
     ok &= search(narrow, "n 32, 160 clauses of 3, plan 11, 2", 11, 2, 4294967295u);
+    ok &= legs(narrow, "n 32, 160 clauses of 3, plan 11, 3", 11, 3, 750000);
+    ok &= legs(narrow, "n 32, 160 clauses of 3, plan 11, 3", 11, 3, 46500);
+    ok &= legs(narrow, "n 32, 160 clauses of 3, plan 11, 3", 11, 3, 3400);
+    ok &= legs(narrow, "n 32, 160 clauses of 3, plan 12, 4", 12, 4, 400000);
+    ok &= legs(narrow, "n 32, 160 clauses of 3, plan 12, 4", 12, 4, 26000);
     make(32, 700, 5);
     ok &= search(narrow, "n 32, 700 clauses of 5, plan 11, 2", 11, 2, 20000000);
+    ok &= legs(narrow, "n 32, 700 clauses of 5, plan 11, 2", 11, 2, 110000);
+    ok &= legs(narrow, "n 32, 700 clauses of 5, plan 11, 2", 11, 2, 26000);
     make(32, 1024, 3);
     ok &= search(narrow, "n 32, 1,024 clauses of 3, plan 11, 3", 11, 3, 20000000);
     ok &= search(narrow, "n 32, 1,024 clauses of 3, plan 11, 2", 11, 2, 20000000);
@@ -453,9 +557,32 @@ static int rows_128(void)
     make(128, 1024, 2);
     ok &= search(wide, "n 128, 1,024 clauses of 2, plan 12, 11", 12, 11, 20000000);
     ok &= search(wide, "n 128, 1,024 clauses of 2, plan 12, 9", 12, 9, 20000000);
+    ok &= legs(wide, "n 128, 1,024 clauses of 2, plan 12, 11", 12, 11, 100000);
+    ok &= legs(wide, "n 128, 1,024 clauses of 2, plan 12, 11", 12, 11, 6500);
+    ok &= legs(wide, "n 128, 1,024 clauses of 2, plan 12, 11", 12, 11, 1600);
     make(128, 1024, 8);
     ok &= toggling(wide, "n 128, toggle a variable, 1,024 clauses of 8", 128, 1024);
     ok &= reading(wide, "n 128, read a sheet of 36,876 bytes");
+    return ok;
+}
+
+/* What each leg takes before its first call, by the plan. */
+static int rows_leg_ready(void)
+{
+    const struct plain *narrow = &plain32_operations, *wide = &plain128_operations;
+    make_apart(32, 160, 3);
+    int ok = leg_ready(narrow, "leg without a call, n 32, plan 1, 1", 1, 1);
+    ok &= leg_ready(narrow, "leg without a call, n 32, plan 8, 2", 8, 2);
+    ok &= leg_ready(narrow, "leg without a call, n 32, plan 11, 2", 11, 2);
+    ok &= leg_ready(narrow, "leg without a call, n 32, plan 11, 3", 11, 3);
+    ok &= leg_ready(narrow, "leg without a call, n 32, plan 12, 3", 12, 3);
+    ok &= leg_ready(narrow, "leg without a call, n 32, plan 12, 4", 12, 4);
+    ok &= leg_ready(narrow, "leg without a call, n 32, plan 12, 12", 12, 12);
+    make_apart(128, 1024, 8);
+    ok &= leg_ready(wide, "leg without a call, n 128, plan 1, 1", 1, 1);
+    ok &= leg_ready(wide, "leg without a call, n 128, plan 11, 3", 11, 3);
+    ok &= leg_ready(wide, "leg without a call, n 128, plan 12, 4", 12, 4);
+    ok &= leg_ready(wide, "leg without a call, n 128, plan 12, 11", 12, 11);
     return ok;
 }
 
@@ -532,6 +659,7 @@ int main(void)
     ok &= rows_32();
     ok &= rows_64();
     ok &= rows_128();
+    ok &= rows_leg_ready();
     ok &= rows_horn();
     ok &= rows_split();
     return !ok;

@@ -1,4 +1,4 @@
-/* A plain C implementation of paper 01 and of papers 2, 4 to 7, 9 and 10 of 02, as one would write it without proofs. It is the baseline of
+/* A plain C implementation of paper 01 and of papers 2, 4 to 7 and 9 to 11 of 02, as one would write it without proofs. It is the baseline of
    bench/run and shares no code with the crates. The search in balls has two forms: as the steps are worded, with masks per clause, in plain_masks.h;
    and with a byte of counts per clause, 16 at a time, in plain_counts.h (vectors). So have the rounds of a Horn sheet, in plain_horn.h, and plain
    splitting, in plain_split.h. What depends on the masks' width is taken twice: for 32 variables, as before paper 5, and for 128. */
@@ -20,10 +20,18 @@ struct plain_tally {
     uint8_t met[1024];
 };
 
+/* A parked search. */
+struct plain_record {
+    uint32_t batch, n, b, s;
+    uint64_t next;
+};
+
 /* The operations with masks of one width. */
 struct plain {
     int (*check)(const uint8_t *bytes, size_t length);
     int (*run)(uint32_t b, uint32_t s, uint32_t budget, const uint8_t *bytes, size_t length, int fast, struct plain_answer *answer);
+    int (*leg)(uint32_t b, uint32_t s, uint32_t budget, const uint8_t *bytes, size_t length, int fast, struct plain_record *record,
+               struct plain_answer *answer);
     int (*split)(uint32_t budget, const uint8_t *bytes, size_t length, int fast, struct plain_answer *answer);
     int (*toggle)(const uint8_t *bytes, size_t length, uint32_t v, struct plain_tally *tally);
     int (*recount)(const uint8_t *bytes, size_t length, struct plain_tally *tally);
@@ -50,6 +58,30 @@ static int plain_code(uint32_t t, uint32_t s, uint16_t *code)
                 for (uint32_t w = 0; w < size; w++) gain[w] -= near_[u ^ w];
             }
     }
+}
+
+/* The blocks of a plan, full ones and one of the variables left, and their codes. */
+struct plain_layout {
+    uint32_t b, full, blocks, radius, words[2];
+    uint16_t code[2][4096];
+};
+
+static void plain_lay_out(uint32_t n, uint32_t b, uint32_t s, struct plain_layout *layout)
+{
+    uint32_t full = n / b, t = n % b, last = s < t ? s : t;
+    layout->b = b, layout->full = full, layout->blocks = full + (t > 0), layout->radius = full * s + last;
+    layout->words[0] = full ? plain_code(b, s, layout->code[0]) : 1;
+    layout->words[1] = t ? plain_code(t, last, layout->code[1]) : 1;
+}
+
+#define PLAIN_MOST (1ull << 63)
+
+/* The number of balls, or 2^63 where there are more. */
+static uint64_t plain_count(const struct plain_layout *layout)
+{
+    unsigned __int128 count = 1;
+    for (uint32_t i = 0; i < layout->blocks && count < PLAIN_MOST; i++) count *= layout->words[i == layout->full];
+    return count < PLAIN_MOST ? count : PLAIN_MOST;
 }
 
 /* The volume of a ball: binomials, each from the one before. */

@@ -10,7 +10,7 @@ struct PLAIN(sheet) {
 
 struct PLAIN(search) {
     const struct PLAIN(sheet) *sheet;
-    uint64_t calls, budget;
+    uint64_t calls, budget, next, done;
     MASK found, centre;
     int vectors;
     _Alignas(16) int8_t counts[1024];
@@ -126,22 +126,25 @@ static int PLAIN(call)(struct PLAIN(search) *search, MASK marks, MASK flipped, u
 #include "plain_horn.h"
 #include "plain_split.h"
 
-/* Searches the balls in turn: 1 clear, 2 none, 3 spent. Their number may not fit any word, and is not made. */
-static int PLAIN(balls)(uint32_t b, uint32_t s, struct PLAIN(search) *search)
+/* Searches the balls from search->next on: 1 clear, 2 none, 3 spent, which leaves the ball that did not fit as next, and the calls before it as done.
+   The number of balls may not fit any word, and is not made. */
+static int PLAIN(balls)(const struct plain_layout *layout, struct PLAIN(search) *search)
 {
-    static uint16_t code[2][4096];
-    uint32_t n = search->sheet->n, words[2] = { 1, 1 }, digit[BITS] = { 0 };
-    uint32_t full = n / b, t = n % b, last = s < t ? s : t, blocks = full + (t > 0), radius = full * s + (t ? last : 0);
-    if (full) words[0] = plain_code(b, s, code[0]);
-    if (t) words[1] = plain_code(t, last, code[1]);
-    for (;;) {
+    uint32_t full = layout->full, blocks = layout->blocks, digit[BITS];
+    uint64_t ball = search->next, left = ball;
+    for (uint32_t i = 0; i < blocks; left /= layout->words[i == full], i++) digit[i] = left % layout->words[i == full];
+    for (;; ball++) {
         MASK centre = 0;
         uint32_t i;
-        for (i = 0; i < blocks; i++) centre |= (MASK)code[i == full][digit[i]] << (i * b);
-        int seen = search->vectors ? PLAIN(ball)(search, centre, radius) : PLAIN(call)(search, centre, 0, radius);
-        if (seen) return seen == 1 ? 1 : 3;
+        uint64_t done = search->calls;
+        for (i = 0; i < blocks; i++) centre |= (MASK)layout->code[i == full][digit[i]] << (i * layout->b);
+        int seen = search->vectors ? PLAIN(ball)(search, centre, layout->radius) : PLAIN(call)(search, centre, 0, layout->radius);
+        if (seen) {
+            search->next = ball, search->done = done;
+            return seen == 1 ? 1 : 3;
+        }
         for (i = 0; i < blocks; i++) {
-            if (++digit[i] < words[i == full]) break;
+            if (++digit[i] < layout->words[i == full]) break;
             digit[i] = 0;
         }
         if (i == blocks) return 2;
@@ -159,7 +162,7 @@ static int PLAIN(prepare)(uint32_t budget, const uint8_t *bytes, size_t length, 
     if (refused) return refused;
     search->sheet = &PLAIN(taken);
     search->budget = budget;
-    search->calls = search->found = search->centre = 0;
+    search->calls = search->next = search->found = search->centre = 0;
     answer->batch = PLAIN(taken).batch;
     return 0;
 }
@@ -170,8 +173,34 @@ static void PLAIN(finish)(const struct PLAIN(search) *search, struct plain_answe
     for (int k = 0; k < BITS / 32; k++) answer->marks[k] = search->found >> 32 * k;
 }
 
-/* 1 clear, 2 none, 3 spent; the number of a refusal negated. */
-static int PLAIN(run)(uint32_t b, uint32_t s, uint32_t budget, const uint8_t *bytes, size_t length, int fast, struct plain_answer *answer)
+/* The record's refusals, in their order: 0, or the number. */
+static int PLAIN(unfit)(uint32_t b, uint32_t s, uint64_t count, const struct plain_record *record)
+{
+    if (count == PLAIN_MOST) return 8;
+    if (record->batch != PLAIN(taken).batch || record->n != PLAIN(taken).n || record->b != b || record->s != s) return 11;
+    return record->next < count ? 0 : 12;
+}
+
+/* By balls: all of them, or those from the record's next on. A leg that is spent counts the balls that it finished. */
+static int PLAIN(by_balls)(uint32_t b, uint32_t s, struct plain_record *record, struct PLAIN(search) *search)
+{
+    static struct plain_layout layout;
+    plain_lay_out(PLAIN(taken).n, b, s, &layout);
+    uint64_t count = plain_count(&layout);
+    int refused = record ? PLAIN(unfit)(b, s, count, record) : 0;
+    if (refused) return -refused;
+    if (record) search->next = record->next;
+    if (search->vectors) PLAIN(begin)(&PLAIN(taken), search);
+    int verdict = PLAIN(balls)(&layout, search);
+    if (!record) return verdict;
+    record->next = verdict == 3 ? search->next : count;
+    if (verdict == 3) search->calls = search->done;
+    return verdict;
+}
+
+/* 1 clear, 2 none, 3 spent; the number of a refusal negated. Without a record it is a run. */
+static int PLAIN(leg)(uint32_t b, uint32_t s, uint32_t budget, const uint8_t *bytes, size_t length, int fast, struct plain_record *record,
+                      struct plain_answer *answer)
 {
     struct PLAIN(search) search;
     int verdict;
@@ -181,14 +210,15 @@ static int PLAIN(run)(uint32_t b, uint32_t s, uint32_t budget, const uint8_t *by
     if (refused) return -refused;
     search.vectors = fast;
     answer->horn = PLAIN(is_horn)(&PLAIN(taken));
-    if (answer->horn) {
-        verdict = fast ? PLAIN(rounds_watched)(&search) : PLAIN(rounds)(&search);
-    } else {
-        if (fast) PLAIN(begin)(&PLAIN(taken), &search);
-        verdict = PLAIN(balls)(b, s, &search);
-    }
+    if (answer->horn) verdict = fast ? PLAIN(rounds_watched)(&search) : PLAIN(rounds)(&search);
+    else verdict = PLAIN(by_balls)(b, s, record, &search);
     PLAIN(finish)(&search, answer);
     return verdict;
+}
+
+static int PLAIN(run)(uint32_t b, uint32_t s, uint32_t budget, const uint8_t *bytes, size_t length, int fast, struct plain_answer *answer)
+{
+    return PLAIN(leg)(b, s, budget, bytes, length, fast, 0, answer);
 }
 
 /* The same by plain splitting. */
@@ -242,4 +272,4 @@ static int PLAIN(recount)(const uint8_t *bytes, size_t length, struct plain_tall
     return 0;
 }
 
-static const struct plain PLAIN(operations) = { PLAIN(check), PLAIN(run), PLAIN(split), PLAIN(toggle), PLAIN(recount) };
+static const struct plain PLAIN(operations) = { PLAIN(check), PLAIN(run), PLAIN(leg), PLAIN(split), PLAIN(toggle), PLAIN(recount) };

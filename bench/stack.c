@@ -1,5 +1,5 @@
-/* Measures the stack that run, split, alike, clause_counts, tally_toggle and covering_code take: each runs on a painted stack, and the paint left is
-   counted. The sheet makes the search as deep as it can be, n flips: in every block each variable is within the radius. Each flip is of the
+/* Measures the stack that run, leg, split, alike, clause_counts, tally_toggle and covering_code take: each runs on a painted stack, and the paint left
+   is counted. The sheet makes the search as deep as it can be, n flips: in every block each variable is within the radius. Each flip is of the
    last literal of its clause, after up to seven whose variables are flipped already, so that a stack that grows with a clause's literals
    shows too. Without its last clause the sheet is Horn and takes n + 1 rounds. n 128 is the limit; n 32 was it before paper 5.
    Splitting is n + 1 calls deep where a clause is decided at the last variable, by variables held, or paid, or with the longest sheet. */
@@ -50,6 +50,13 @@ static void make_last(uint32_t n, uint32_t count, uint32_t c)
 
 static void *do_run(void *unused) { reply = run(1, 1, 1000000, sheet, length); return unused; }
 static void *do_run_12(void *unused) { reply = run(12, 12, 1000000, sheet, length); return unused; }
+static void *do_leg(void *unused)
+{
+    struct checkpoint record = { 0, sheet[8], 12, 12, 0 };
+    struct leg_reply r = leg(12, 12, 1000000, sheet, length, &record);
+    memcpy(&reply, &r, sizeof reply);
+    return unused;
+}
 static void *do_split(void *unused) { reply = split(1000000, sheet, length); return unused; }
 static void *do_alike(void *unused) { alike(sheet, length, sheet, length); return unused; }
 static void *do_counts(void *unused)
@@ -112,11 +119,12 @@ static void measure(uint32_t n)
 {
     size_t base = used(do_nothing);
     make(n, 1);
-    size_t horn = deepest(do_run, n + 1, ENGINE_HORN) - base;
+    size_t horn = deepest(do_run, n + 1, ENGINE_HORN) - base, leg_horn = deepest(do_leg, n + 1, ENGINE_HORN) - base;
     make(n, 0);
     printf("n %u: run %zu bytes (blocks of 12: %zu; Horn: %zu), alike %zu bytes, clause_counts %zu bytes, tally_toggle %zu bytes\n", n,
            deepest(do_run, n + 1, ENGINE_BALLS) - base, deepest(do_run_12, n + 1, ENGINE_BALLS) - base, horn, used(do_alike) - base,
            used(do_counts) - base, used(do_toggle) - base);
+    printf("n %u: leg %zu bytes (Horn: %zu)\n", n, deepest(do_leg, n + 1, ENGINE_BALLS) - base, leg_horn);
     measure_split(n);
 }
 

@@ -6,31 +6,11 @@
    clear counts MARKS FLIPPED FILE
    clear tally FILE VARIABLE...
    MARKS and FLIPPED are one to four numbers with commas between them, variables 1 to 32 in the first; those left out are 0. */
-#include <stdio.h>
 #include <string.h>
-#include "../include/engine.h"
+#define PROGRAM "clear"
+#include "common.h"
 
-static uint8_t sheet[36880]; /* one word more than the longest sheet, so that an overlong one is seen */
-
-/* Reads a decimal number of at most 32 bits from the front of the text: gives its end, or a null pointer where there is none. */
-static const char *digits(const char *text, uint32_t *into)
-{
-    uint64_t n = 0;
-    const char *at = text;
-    while (*at >= '0' && *at <= '9' && n <= UINT32_MAX) n = 10 * n + (uint64_t)(*at++ - '0');
-    if (at == text || n > UINT32_MAX) return NULL;
-    *into = (uint32_t)n;
-    return at;
-}
-
-/* Reads a text that is one number; anything else is told and gives 0. */
-static int number(const char *what, const char *text, uint32_t *into)
-{
-    const char *end = digits(text, into);
-    if (end && !*end) return 1;
-    fprintf(stderr, "clear: %s is '%s', and must be a decimal number from 0 to 4294967295\n", what, text);
-    return 0;
-}
+static uint8_t sheet[SHEET_ROOM];
 
 /* Reads an assignment or a set of variables; anything else is told and gives 0. */
 static int variables(const char *what, const char *text, uint32_t into[ENGINE_WORDS])
@@ -47,21 +27,6 @@ static int variables(const char *what, const char *text, uint32_t into[ENGINE_WO
     return 0;
 }
 
-/* Reads the file into the sheet; a file that cannot be read is told and gives 0. */
-static int contents(const char *name, size_t *length)
-{
-    FILE *file = fopen(name, "rb");
-    if (!file) {
-        perror(name);
-        return 0;
-    }
-    *length = fread(sheet, 1, sizeof sheet, file);
-    int bad = ferror(file);
-    if (bad) perror(name);
-    fclose(file);
-    return !bad;
-}
-
 /* The clauses of an accepted sheet: each begins at a word of kind 1. */
 static uint32_t clauses(size_t length)
 {
@@ -75,10 +40,11 @@ static int counts(char **argv)
 {
     uint32_t marks[ENGINE_WORDS], flipped[ENGINE_WORDS];
     size_t length;
-    if (!variables("MARKS", argv[2], marks) || !variables("FLIPPED", argv[3], flipped) || !contents(argv[4], &length)) return 2;
+    if (!variables("MARKS", argv[2], marks) || !variables("FLIPPED", argv[3], flipped)) return 2;
+    if (!contents(argv[4], sheet, sizeof sheet, &length)) return 2;
     struct counts_reply r = clause_counts(sheet, length, 0, marks, flipped);
     if (r.number) {
-        printf("refused %u place %u\n", r.number, r.place);
+        print_refusal(r.number, r.place);
         return 0;
     }
     for (uint32_t clause = 0, count = clauses(length); clause < count; clause++) {
@@ -86,12 +52,6 @@ static int counts(char **argv)
         printf("clause %u met %u open %u\n", clause + 1, r.met, r.open);
     }
     return 0;
-}
-
-static void print_marks(const uint32_t marks[ENGINE_WORDS])
-{
-    printf(" marks");
-    for (int word = 0; word < ENGINE_WORDS; word++) printf(" %u", marks[word]);
 }
 
 /* The standing that a reply leaves, or the refusal. */
@@ -114,7 +74,7 @@ static int tally(int argc, char **argv)
     size_t length;
     for (int i = 3; i < argc; i++)
         if (!number("VARIABLE", argv[i], &variable)) return 2;
-    if (!contents(argv[2], &length)) return 2;
+    if (!contents(argv[2], sheet, sizeof sheet, &length)) return 2;
     struct tally_reply r = tally_begin(sheet, length, marks, met, &unmet);
     standing("begin", r, marks, unmet);
     if (r.number) return 0;
@@ -129,17 +89,10 @@ static int tally(int argc, char **argv)
     return 0;
 }
 
-/* The engine's answer, as `clearing` prints it; where it names no road, there is no word for one. */
 static void print_reply(struct reply r)
 {
-    static const char *names[] = { "refused", "clear", "none", "spent" }, *roads[] = { "", " horn", " ball" };
-    if (r.verdict == ENGINE_REFUSED) {
-        printf("refused %u place %u\n", r.number, r.place);
-        return;
-    }
-    printf("batch %u%s %s calls %u", r.batch, roads[r.road], names[r.verdict], r.calls);
-    print_marks(r.marks);
-    printf("\n");
+    if (r.verdict == ENGINE_REFUSED) print_refusal(r.number, r.place);
+    else print_answer(r.verdict, r.batch, r.road, r.calls, r.marks);
 }
 
 static int decide(char **argv)
@@ -147,7 +100,7 @@ static int decide(char **argv)
     uint32_t size, radius, budget;
     size_t length;
     if (!number("BLOCK_LENGTH", argv[1], &size) || !number("RADIUS", argv[2], &radius) || !number("BUDGET", argv[3], &budget)) return 2;
-    if (!contents(argv[4], &length)) return 2;
+    if (!contents(argv[4], sheet, sizeof sheet, &length)) return 2;
     print_reply(run(size, radius, budget, sheet, length));
     return 0;
 }
@@ -156,7 +109,7 @@ static int by_splitting(char **argv)
 {
     uint32_t budget;
     size_t length;
-    if (!number("BUDGET", argv[2], &budget) || !contents(argv[3], &length)) return 2;
+    if (!number("BUDGET", argv[2], &budget) || !contents(argv[3], sheet, sizeof sheet, &length)) return 2;
     print_reply(split(budget, sheet, length));
     return 0;
 }

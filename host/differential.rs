@@ -1,8 +1,9 @@
-// An independent implementation of paper 01 and of papers 1, 2, 4, 5, 6, 7, 9 and 10 of 02, compared with the proved library on
-// many inputs: long and short, valid and damaged, with few variables and up to 128, Horn, nearly Horn and others, and for paper 2
-// tallies of the sheet, of other sheets, and of any numbers. What paper 8 says of codes and calls is tested on the library's own,
-// and so is what all runs owe, by balls or by rounds, and what they and splitting owe each other. It shares no code with the
-// crates. It prints how many answers of each kind agreed, and every disagreement.
+// An independent implementation of paper 01 and of papers 1, 2, 4, 5, 6, 7, 9, 10 and 11 of 02, compared with the proved library on
+// many inputs: long and short, valid and damaged, with few variables and up to 128, Horn, nearly Horn and others, for paper 2 tallies
+// of the sheet, of other sheets, and of any numbers, and for paper 11 legs from any record and whole searches in legs. What paper 8
+// says of codes and calls is tested on the library's own, and so is what all runs owe, by balls or by rounds, what they and splitting
+// owe each other, and what legs owe a run and all assignments. It shares no code with the crates. It prints how many answers of each
+// kind agreed, and every disagreement.
 
 use std::collections::{BTreeSet, HashMap};
 
@@ -19,6 +20,52 @@ struct Reply {
 }
 
 impl Reply {
+    // Clear or none.
+    fn decided(&self) -> bool {
+        self.verdict == 1 || self.verdict == 2
+    }
+}
+
+// A parked search as it is lent.
+#[repr(C)]
+#[derive(Clone, Copy, Debug, PartialEq)]
+struct Checkpoint {
+    batch: u32,
+    n: u32,
+    block_length: u32,
+    radius: u32,
+    next: u64,
+}
+
+impl Checkpoint {
+    fn of(plan: (u32, u32), sheet: &Sheet, next: u64) -> Checkpoint {
+        Checkpoint { batch: sheet.batch, n: sheet.n, block_length: plan.0, radius: plan.1, next }
+    }
+}
+
+#[repr(C)]
+#[derive(Clone, Copy, Debug, Default, PartialEq)]
+struct LegReply {
+    verdict: u32,
+    batch: u32,
+    road: u32,
+    marks: [u32; 4],
+    calls: u32,
+    number: u32,
+    place: u32,
+    sheet: u32,
+}
+
+impl LegReply {
+    fn of(reply: Reply) -> LegReply {
+        let Reply { verdict, batch, road, marks, calls, number, place } = reply;
+        LegReply { verdict, batch, road, marks, calls, number, place, sheet: (number != 0) as u32 }
+    }
+
+    fn refused(number: u32, place: u32) -> LegReply {
+        LegReply { number, place, sheet: 1, ..LegReply::default() }
+    }
+
     // Clear or none.
     fn decided(&self) -> bool {
         self.verdict == 1 || self.verdict == 2
@@ -68,10 +115,11 @@ struct Lent {
 }
 
 mod library {
-    use super::{AlikeReply, CountsReply, NumberReply, Reply, TallyReply};
+    use super::{AlikeReply, Checkpoint, CountsReply, LegReply, NumberReply, Reply, TallyReply};
     extern "C" {
         pub fn run(b: u32, s: u32, budget: u32, sheet: *const u8, length: usize) -> Reply;
         pub fn split(budget: u32, sheet: *const u8, length: usize) -> Reply;
+        pub fn leg(b: u32, s: u32, budget: u32, sheet: *const u8, length: usize, record: *mut Checkpoint) -> LegReply;
         pub fn clause_counts(sheet: *const u8, length: usize, clause: u32, marks: *const u32, flipped: *const u32) -> CountsReply;
         pub fn tally_begin(sheet: *const u8, length: usize, marks: *mut u32, met: *mut u8, unmet: *mut u32) -> TallyReply;
         pub fn tally_toggle(sheet: *const u8, length: usize, v: u32, marks: *mut u32, met: *mut u8, unmet: *mut u32) -> TallyReply;
@@ -89,6 +137,16 @@ fn library_run(plan: (u32, u32), budget: u32, sheet: &[u8]) -> Reply {
 
 fn library_split(budget: u32, sheet: &[u8]) -> Reply {
     unsafe { library::split(budget, sheet.as_ptr(), sheet.len()) }
+}
+
+// The record lies between two others, so that a write past it shows.
+fn library_leg(plan: (u32, u32), budget: u32, sheet: &[u8], record: &mut Checkpoint) -> LegReply {
+    let other = Checkpoint { batch: 1, n: 2, block_length: 3, radius: 4, next: 5 };
+    let mut lent = [other, *record, other];
+    let reply = unsafe { library::leg(plan.0, plan.1, budget, sheet.as_ptr(), sheet.len(), lent.as_mut_ptr().add(1)) };
+    assert!(lent[0] == other && lent[2] == other, "a leg wrote past its record");
+    *record = lent[1];
+    reply
 }
 
 // Where the two arrays are equal they are lent as one buffer.
@@ -630,10 +688,22 @@ fn rounds(sheet: &Sheet, budget: u32) -> (Seen, u32) {
     }
 }
 
+fn is_plan((b, s): (u32, u32)) -> bool {
+    b >= 1 && b <= 12 && s <= b
+}
+
+fn answered(sheet: &Sheet, road: u32, (seen, calls): (Seen, u32)) -> Reply {
+    let (verdict, marks) = match seen {
+        Seen::Found(marks) => (1, marks),
+        Seen::No => (2, 0),
+        Seen::Spent => (3, 0),
+    };
+    Reply { verdict, batch: sheet.batch, road, marks: words_of(marks), calls, ..Reply::default() }
+}
+
 fn run(codes: &mut Codes, plan: (u32, u32), budget: u32, bytes: &[u8]) -> (Reply, Notes) {
     let refused = |r: Refused| (Reply { number: r.0, place: r.1, ..Reply::default() }, Notes::default());
-    let (b, s) = plan;
-    if b < 1 || b > 12 || s > b {
+    if !is_plan(plan) {
         return refused((8, 0));
     }
     let sheet = match read(bytes) {
@@ -642,16 +712,82 @@ fn run(codes: &mut Codes, plan: (u32, u32), budget: u32, bytes: &[u8]) -> (Reply
     };
     let mut notes = Notes { n: sheet.n, ..Notes::default() };
     let road = if is_horn(&sheet) { HORN } else { BALLS };
-    let (seen, calls) = match road {
+    let worked = match road {
         HORN => rounds(&sheet, budget),
         _ => balls(codes, plan, budget, &sheet, &mut notes),
     };
-    let (verdict, marks) = match seen {
-        Seen::Found(marks) => (1, marks),
-        Seen::No => (2, 0),
-        Seen::Spent => (3, 0),
+    (answered(&sheet, road, worked), notes)
+}
+
+// ---- legs
+
+// The number of balls, if it is below 2^63.
+fn count_balls(blocks: &[Block]) -> Option<u64> {
+    let count = blocks.iter().try_fold(1u64, |count, block| count.checked_mul(block.2.len() as u64));
+    count.filter(|count| *count < 1 << 63)
+}
+
+// The whole word of this number, the word of the first block changing fastest.
+fn centre(blocks: &[Block], ball: u64) -> u128 {
+    let mut rest = ball;
+    let mut digit = |block: &Block| {
+        let words = block.2.len() as u64;
+        let digit = rest % words;
+        rest /= words;
+        digit as usize
     };
-    (Reply { verdict, batch: sheet.batch, road, marks: words_of(marks), calls, ..Reply::default() }, notes)
+    whole_word(blocks, &blocks.iter().map(&mut digit).collect::<Vec<usize>>())
+}
+
+// From the next ball on, each with what the balls before it left of the budget. One that needs more is not counted.
+fn whole_balls(sheet: &Sheet, blocks: &[Block], budget: u32, next: &mut u64, count: u64) -> (Seen, u32) {
+    let radius = blocks.iter().map(|b| b.1).sum();
+    let mut finished = 0;
+    while *next < count {
+        let mut search = Search { sheet, calls: 0, budget: budget as u64 - finished, parts: [false; PARTS.len()] };
+        let seen = search.call(centre(blocks, *next), 0, radius);
+        if let Seen::Spent = seen {
+            return (seen, finished as u32);
+        }
+        finished += search.calls;
+        if let Seen::Found(_) = seen {
+            *next = count;
+            return (seen, finished as u32);
+        }
+        *next += 1;
+    }
+    (Seen::No, finished as u32)
+}
+
+// Paper 11 of 02. Where a run is refused, or takes the straight road, a leg says the same.
+fn leg(codes: &mut Codes, plan: (u32, u32), budget: u32, bytes: &[u8], record: &mut Checkpoint) -> LegReply {
+    let sheet = match read(bytes) {
+        Ok(sheet) if is_plan(plan) && !is_horn(&sheet) => sheet,
+        _ => return LegReply::of(run(codes, plan, budget, bytes).0),
+    };
+    let blocks = blocks_of(codes, plan, sheet.n);
+    let Some(count) = count_balls(&blocks) else {
+        return LegReply::refused(8, 0);
+    };
+    if *record != Checkpoint::of(plan, &sheet, record.next) {
+        return LegReply::refused(11, 0);
+    }
+    if record.next >= count {
+        return LegReply::refused(12, 0);
+    }
+    LegReply::of(answered(&sheet, BALLS, whole_balls(&sheet, &blocks, budget, &mut record.next, count)))
+}
+
+// All assignments are tried: no model is within the radius of the centres of these balls.
+fn emptied(sheet: &Sheet, blocks: &[Block], balls: std::ops::Range<u64>) -> bool {
+    let radius: u32 = blocks.iter().map(|b| b.1).sum();
+    let models: Vec<u128> = models(sheet).collect();
+    let mut digits = vec![0usize; blocks.len()];
+    (0..balls.end).all(|ball| {
+        let centre = whole_word(blocks, &digits);
+        advance(blocks, &mut digits);
+        ball < balls.start || models.iter().all(|model| (model ^ centre).count_ones() > radius)
+    })
 }
 
 // ---- splitting
@@ -855,16 +991,24 @@ fn most_words(t: u32, floor: usize) -> usize {
 // Paper 8 of 02: at most so many calls are needed, by the lengths, the radii and the floors of the blocks alone.
 fn most_calls(plan: (u32, u32), sheet: &Sheet) -> u128 {
     let (b, s) = plan;
-    let k = sheet.terms.iter().map(Vec::len).max().unwrap_or(0) as u128;
+    let k = longest_term(sheet);
     let lengths = (0..sheet.n).step_by(b as usize).map(|at| b.min(sheet.n - at));
     let balls = lengths.clone().fold(1u128, |product, t| {
         let floor = library_measures(t, s.min(t)).1.result as usize;
         product.saturating_mul(most_words(t, floor) as u128)
     });
     let radius: u32 = lengths.map(|t| s.min(t)).sum();
-    // 1 + k × (1 + k × (…)): the sum of the powers of k up to the radius
-    let calls = (0..radius).fold(1u128, |sum, _| sum.saturating_mul(k).saturating_add(1));
-    balls.saturating_mul(calls)
+    balls.saturating_mul(most_in_ball(k, radius))
+}
+
+// 1 + k × (1 + k × (…)): the sum of the powers of k up to the radius.
+fn most_in_ball(k: u128, radius: u32) -> u128 {
+    (0..radius).fold(1u128, |sum, _| sum.saturating_mul(k).saturating_add(1))
+}
+
+// The length of the longest term.
+fn longest_term(sheet: &Sheet) -> u128 {
+    sheet.terms.iter().map(Vec::len).max().unwrap_or(0) as u128
 }
 
 // A null pointer with length 0 is an empty buffer.
@@ -872,6 +1016,9 @@ fn nothing_agrees() -> bool {
     let none = std::ptr::null();
     let run = unsafe { library::run(3, 1, 9, none, 0) };
     let split = unsafe { library::split(9, none, 0) };
+    let record = Checkpoint { batch: 0, n: 0, block_length: 3, radius: 1, next: 1 };
+    let mut parked = record;
+    let leg = unsafe { library::leg(3, 1, 9, none, 0, &mut parked) };
     let words = [5, 6, 7, 8];
     let counts = unsafe { library::clause_counts(none, 0, 0, words.as_ptr(), words.as_ptr()) };
     let mut lent = Lent { marks: words, met: [4; 1024], unmet: 5 };
@@ -881,6 +1028,8 @@ fn nothing_agrees() -> bool {
     let alike = unsafe { library::alike(none, 0, none, 0) };
     let code = unsafe { library::covering_code(1, 0, std::ptr::null_mut(), 0) };
     [run, split] == [Reply { number: 2, ..Reply::default() }; 2]
+        && leg == LegReply::refused(2, 0)
+        && parked == record
         && counts == CountsReply { number: 2, ..CountsReply::default() }
         && [begun, toggled] == [TallyReply { number: 2, place: 0 }; 2]
         && lent == Lent { marks: words, met: [4; 1024], unmet: 5 }
@@ -917,8 +1066,11 @@ fn sources_agree() -> bool {
     examples.iter().all(|(n, clauses, model)| {
         let bytes = written(*n, clauses);
         let verdict = if *model { 1 } else { 2 };
-        all_plans().iter().all(|plan| library_run(*plan, u32::MAX, &bytes).verdict == verdict)
-            && library_split(u32::MAX, &bytes).verdict == verdict
+        all_plans().iter().all(|plan| {
+            let mut start = Checkpoint { batch: 2, n: *n, block_length: plan.0, radius: plan.1, next: 0 };
+            library_run(*plan, u32::MAX, &bytes).verdict == verdict
+                && library_leg(*plan, u32::MAX, &bytes, &mut start).verdict == verdict
+        }) && library_split(u32::MAX, &bytes).verdict == verdict
     })
 }
 
@@ -1398,6 +1550,8 @@ fn limits_agree(codes: &mut Codes) -> bool {
         let mut lent = lend(([1, 2, 3, 4], &[5], 6));
         let begun = [library_begin(&bytes, &mut lent), library_toggle(&bytes, 1, &mut lent)];
         let toggled = if n == 0 { refused(10, 0) } else { refused(number, place) };
+        let mut parked = Checkpoint { batch: 2, n, block_length: 1, radius: 1, next: 0 };
+        let leg = library_leg((1, 1), 9, &bytes, &mut parked) == LegReply::of(library_run((1, 1), 9, &bytes));
         let alike = [library_alike(&bytes, &bytes), library_alike(&written(1, &[]), &bytes)];
         let answers = if n > 128 { [(0, 1), (0, 2)] } else { [(1, 0), (2, 0)] };
         let fine = if n > 128 {
@@ -1407,7 +1561,9 @@ fn limits_agree(codes: &mut Codes) -> bool {
         } else {
             replies(codes, (1, 1), 9, &bytes, (road, 2, [0; 4], 1)) && by_splitting(&bytes, (2, [0; 4], 1))
         };
-        fine && begun == [refused(number, place), toggled]
+        fine && leg
+            && parked.next == (2..=128).contains(&n) as u64
+            && begun == [refused(number, place), toggled]
             && alike == answers.map(|(answer, sheet)| AlikeReply { answer, sheet, number, place })
     })
 }
@@ -1528,13 +1684,13 @@ fn ways_agree(codes: &mut Codes) -> bool {
     })
 }
 
-// A sheet of 128 clauses with one literal each: the assignment is its only model. In a ball that does not hold it there is one path,
+// A sheet of n clauses with one literal each: the assignment is its only model. In a ball that does not hold it there is one path,
 // of as many flips as the radius allows. A last clause, with one of these literals and two positive ones, is for the balls alone.
-fn forced(words: [u32; 4]) -> Vec<u8> {
+fn forced(n: u32, words: [u32; 4]) -> Vec<u8> {
     let paid = |i: usize| words[i / 32] >> (i % 32) & 1 == 1;
-    let literals: Vec<i32> = (0..128).map(|i| if paid(i) { i as i32 + 1 } else { -(i as i32) - 1 }).collect();
+    let literals: Vec<i32> = (0..n as usize).map(|i| if paid(i) { i as i32 + 1 } else { -(i as i32) - 1 }).collect();
     let last = [literals[0], 2, 3];
-    written(128, &literals.chunks(1).chain([&last[..]]).collect::<Vec<&[i32]>>())
+    written(n, &literals.chunks(1).chain([&last[..]]).collect::<Vec<&[i32]>>())
 }
 
 // The plan, the model, the number of balls before the first that holds it, the radius, and how far it is from that word.
@@ -1560,7 +1716,7 @@ const FORCED: [Forced; 9] = [
 
 fn forced_agree(codes: &mut Codes) -> bool {
     FORCED.iter().all(|(plan, model, before, radius, far)| {
-        let bytes = forced(*model);
+        let bytes = forced(128, *model);
         let calls = before * (radius + 1) + far + 1;
         // the highest budget last, since a search that goes astray would take it all
         just(codes, *plan, &bytes, (BALLS, 1, *model, calls))
@@ -2192,6 +2348,555 @@ fn full_agree() -> bool {
     })
 }
 
+// ---- fixed cases of paper 11 of 02
+
+// The plan, the budget, the number of variables, the clauses, the next ball, how the leg ends, and the next ball after it.
+type Leg = ((u32, u32), u32, u32, &'static [&'static [i32]], u64, Ended, u64);
+
+const FOUR: [&[i32]; 4] = [&[1, 2], &[1, -2], &[-1, 2], &[-1, -2]];
+const CORE: [&[i32]; 4] = [&[64, 65], &[64, -65], &[-64, 65], &[-64, -65]];
+
+// The last of 2^62 balls, and one more.
+const LAST: u64 = (1 << 62) - 1;
+const ALL: u64 = 1 << 62;
+
+const LEGS: [Leg; 78] = [
+    // two balls of three calls: what a ball needs is enough for it, and what is left over after it counts for nothing
+    ((2, 1), 0, 2, &FOUR, 0, (3, [0; 4], 0), 0),
+    ((2, 1), 1, 2, &FOUR, 0, (3, [0; 4], 0), 0),
+    ((2, 1), 2, 2, &FOUR, 0, (3, [0; 4], 0), 0),
+    ((2, 1), 3, 2, &FOUR, 0, (3, [0; 4], 3), 1),
+    ((2, 1), 4, 2, &FOUR, 0, (3, [0; 4], 3), 1),
+    ((2, 1), 5, 2, &FOUR, 0, (3, [0; 4], 3), 1),
+    ((2, 1), 6, 2, &FOUR, 0, (2, [0; 4], 6), 2),
+    ((2, 1), 7, 2, &FOUR, 0, (2, [0; 4], 6), 2),
+    ((2, 1), u32::MAX, 2, &FOUR, 0, (2, [0; 4], 6), 2),
+    ((2, 1), 0, 2, &FOUR, 1, (3, [0; 4], 0), 1),
+    ((2, 1), 2, 2, &FOUR, 1, (3, [0; 4], 0), 1),
+    ((2, 1), 3, 2, &FOUR, 1, (2, [0; 4], 3), 2),
+    ((2, 1), 4, 2, &FOUR, 1, (2, [0; 4], 3), 2),
+    ((2, 1), u32::MAX, 2, &FOUR, 1, (2, [0; 4], 3), 2),
+    // one ball is one leg
+    ((2, 2), 0, 2, &FOUR, 0, (3, [0; 4], 0), 0),
+    ((2, 2), 2, 2, &FOUR, 0, (3, [0; 4], 0), 0),
+    ((2, 2), 3, 2, &FOUR, 0, (2, [0; 4], 3), 1),
+    ((2, 2), 4, 2, &FOUR, 0, (2, [0; 4], 3), 1),
+    ((1, 1), 2, 2, &FOUR, 0, (3, [0; 4], 0), 0),
+    ((1, 1), 3, 2, &FOUR, 0, (2, [0; 4], 3), 1),
+    // four balls of one call, in one block or in two
+    ((2, 0), 0, 2, &FOUR, 0, (3, [0; 4], 0), 0),
+    ((2, 0), 1, 2, &FOUR, 0, (3, [0; 4], 1), 1),
+    ((2, 0), 3, 2, &FOUR, 0, (3, [0; 4], 3), 3),
+    ((2, 0), 4, 2, &FOUR, 0, (2, [0; 4], 4), 4),
+    ((1, 0), 1, 2, &FOUR, 2, (3, [0; 4], 1), 3),
+    ((1, 0), 2, 2, &FOUR, 2, (2, [0; 4], 2), 4),
+    ((1, 0), 1, 2, &FOUR, 3, (2, [0; 4], 1), 4),
+    ((1, 0), 0, 2, &FOUR, 3, (3, [0; 4], 0), 3),
+    // found in the first of two balls; from the second it is another model
+    ((3, 1), 0, 3, &[&[1, 2], &[-1, -3], &[-3]], 0, (3, [0; 4], 0), 0),
+    ((3, 1), 1, 3, &[&[1, 2], &[-1, -3], &[-3]], 0, (3, [0; 4], 0), 0),
+    ((3, 1), 2, 3, &[&[1, 2], &[-1, -3], &[-3]], 0, (1, [1, 0, 0, 0], 2), 2),
+    ((3, 1), u32::MAX, 3, &[&[1, 2], &[-1, -3], &[-3]], 0, (1, [1, 0, 0, 0], 2), 2),
+    ((3, 1), 2, 3, &[&[1, 2], &[-1, -3], &[-3]], 1, (3, [0; 4], 0), 1),
+    ((3, 1), 3, 3, &[&[1, 2], &[-1, -3], &[-3]], 1, (1, [3, 0, 0, 0], 3), 2),
+    // balls of one call and of three
+    ((3, 2), 1, 3, &[&[1], &[2, 3], &[-1]], 0, (3, [0; 4], 1), 1),
+    ((3, 2), 3, 3, &[&[1], &[2, 3], &[-1]], 0, (3, [0; 4], 1), 1),
+    ((3, 2), 4, 3, &[&[1], &[2, 3], &[-1]], 0, (2, [0; 4], 4), 2),
+    ((3, 2), 2, 3, &[&[1], &[2, 3], &[-1]], 1, (3, [0; 4], 0), 1),
+    ((3, 2), 3, 3, &[&[1], &[2, 3], &[-1]], 1, (2, [0; 4], 3), 2),
+    // past the only model, 3, a none says nothing of it
+    ((1, 0), 3, 3, &[&[1], &[2], &[-3], &[1, 2]], 0, (3, [0; 4], 3), 3),
+    ((1, 0), 4, 3, &[&[1], &[2], &[-3], &[1, 2]], 0, (1, [3, 0, 0, 0], 4), 8),
+    ((1, 0), 1, 3, &[&[1], &[2], &[-3], &[1, 2]], 3, (1, [3, 0, 0, 0], 1), 8),
+    ((1, 0), 3, 3, &[&[1], &[2], &[-3], &[1, 2]], 4, (3, [0; 4], 3), 7),
+    ((1, 0), 4, 3, &[&[1], &[2], &[-3], &[1, 2]], 4, (2, [0; 4], 4), 8),
+    ((1, 0), 1, 3, &[&[1], &[2], &[-3], &[1, 2]], 7, (2, [0; 4], 1), 8),
+    // a shorter last block, of two words and of one
+    ((3, 1), 3, 5, &[&[1, 2], &[]], 0, (3, [0; 4], 3), 3),
+    ((3, 1), 4, 5, &[&[1, 2], &[]], 0, (2, [0; 4], 4), 4),
+    ((3, 1), 1, 5, &[&[1, 2], &[]], 3, (2, [0; 4], 1), 4),
+    ((3, 1), 2, 4, &[&[1, 2], &[]], 0, (2, [0; 4], 2), 2),
+    ((3, 1), 1, 4, &[&[1, 2], &[]], 0, (3, [0; 4], 1), 1),
+    // 1,024 balls of three calls, in 128 variables
+    ((12, 11), 3000, 128, &CORE, 0, (3, [0; 4], 3000), 1000),
+    ((12, 11), 3002, 128, &CORE, 0, (3, [0; 4], 3000), 1000),
+    ((12, 11), 3071, 128, &CORE, 0, (3, [0; 4], 3069), 1023),
+    ((12, 11), 3072, 128, &CORE, 0, (2, [0; 4], 3072), 1024),
+    ((12, 11), 71, 128, &CORE, 1000, (3, [0; 4], 69), 1023),
+    ((12, 11), 72, 128, &CORE, 1000, (2, [0; 4], 72), 1024),
+    // a ball for each assignment of 62 variables, in their order as numbers
+    ((1, 0), 0, 62, &FOUR, LAST, (3, [0; 4], 0), LAST),
+    ((1, 0), 1, 62, &FOUR, LAST, (2, [0; 4], 1), ALL),
+    ((1, 0), 9, 62, &FOUR, LAST, (2, [0; 4], 1), ALL),
+    ((1, 0), 2, 62, &FOUR, LAST - 2, (3, [0; 4], 2), LAST),
+    ((1, 0), 3, 62, &FOUR, LAST - 2, (2, [0; 4], 3), ALL),
+    ((1, 0), 0, 62, &[&[1], &[2], &[3, 62]], LAST - 3, (3, [0; 4], 0), LAST - 3),
+    ((1, 0), 1, 62, &[&[1], &[2], &[3, 62]], LAST - 3, (3, [0; 4], 1), LAST - 2),
+    ((1, 0), 3, 62, &[&[1], &[2], &[3, 62]], LAST - 3, (3, [0; 4], 3), LAST),
+    ((1, 0), 4, 62, &[&[1], &[2], &[3, 62]], LAST - 3, (1, [u32::MAX, 0x3fff_ffff, 0, 0], 4), ALL),
+    ((1, 0), 3, 62, &[&[1], &[2], &[3, 62]], LAST - 7, (3, [0; 4], 3), LAST - 4),
+    ((1, 0), 9, 62, &[&[1], &[2], &[3, 62]], LAST - 7, (1, [0xffff_fffb, 0x3fff_ffff, 0, 0], 4), ALL),
+    ((1, 0), 2, 62, &[&[33], &[3, 62]], (1 << 32) - 2, (3, [0; 4], 2), 1 << 32),
+    ((1, 0), 6, 62, &[&[33], &[3, 62]], (1 << 32) - 2, (3, [0; 4], 6), (1 << 32) + 4),
+    ((1, 0), 7, 62, &[&[33], &[3, 62]], (1 << 32) - 2, (1, [4, 1, 0, 0], 7), ALL),
+    ((7, 0), 6, 62, &[&[33], &[3, 62]], (1 << 32) - 2, (3, [0; 4], 6), (1 << 32) + 4),
+    ((7, 0), 7, 62, &[&[33], &[3, 62]], (1 << 32) - 2, (1, [4, 1, 0, 0], 7), ALL),
+    // the words 0 and 1 in 62 blocks, and one word in the last, of one variable
+    ((2, 1), 2, 125, &FOUR, LAST, (3, [0; 4], 0), LAST),
+    ((2, 1), 3, 125, &FOUR, LAST, (2, [0; 4], 3), ALL),
+    ((2, 1), 8, 125, &FOUR, LAST - 2, (3, [0; 4], 6), LAST),
+    ((2, 1), 9, 125, &FOUR, LAST - 2, (2, [0; 4], 9), ALL),
+    ((2, 1), 1, 125, &[&[123], &[124, 125]], LAST, (3, [0; 4], 0), LAST),
+    ((2, 1), 2, 125, &[&[123], &[124, 125]], LAST, (1, [0x5555_5555, 0x5555_5555, 0x5555_5555, 0x0d55_5555], 2), ALL),
+];
+
+// The library and the leg above both give this reply, and leave the second of the records.
+fn legs_to(codes: &mut Codes, asked: ((u32, u32), u32), bytes: &[u8], records: [Checkpoint; 2], expected: LegReply) -> bool {
+    let (plan, budget) = asked;
+    let [mut got, mut own] = [records[0]; 2];
+    let replies = [library_leg(plan, budget, bytes, &mut got), leg(codes, plan, budget, bytes, &mut own)];
+    replies == [expected; 2] && [got, own] == [records[1]; 2]
+}
+
+// By balls, from the one to the other, in the record of the sheet.
+fn leg_ends(codes: &mut Codes, asked: ((u32, u32), u32), bytes: &[u8], balls: [u64; 2], ended: Ended) -> bool {
+    let (verdict, marks, calls) = ended;
+    read(bytes).is_ok_and(|sheet| {
+        let records = balls.map(|next| Checkpoint::of(asked.0, &sheet, next));
+        let expected = Reply { verdict, batch: sheet.batch, road: BALLS, marks, calls, ..Reply::default() };
+        legs_to(codes, asked, bytes, records, LegReply::of(expected))
+    })
+}
+
+fn legs_agree(codes: &mut Codes) -> bool {
+    LEGS.iter().all(|(plan, budget, n, clauses, next, ended, later)| {
+        leg_ends(codes, (*plan, *budget), &written(*n, clauses), [*next, *later], *ended)
+    })
+}
+
+// The plan, the number of variables, the clauses, and for each ball the calls that it needs and the model that it finds.
+type Balls = ((u32, u32), u32, &'static [&'static [i32]], &'static [(u32, Option<u32>)]);
+
+const EACH: [Balls; 17] = [
+    ((2, 1), 2, &FOUR, &[(3, None), (3, None)]),
+    ((2, 2), 2, &FOUR, &[(3, None)]),
+    ((2, 0), 2, &FOUR, &[(1, None), (1, None), (1, None), (1, None)]),
+    ((1, 0), 2, &FOUR, &[(1, None), (1, None), (1, None), (1, None)]),
+    // words 0 and 7
+    ((3, 1), 3, &[&[1, 2], &[-1, -3], &[-3]], &[(2, Some(1)), (3, Some(3))]),
+    ((3, 1), 3, &[&[-1, 2, 3]], &[(1, Some(0)), (1, Some(7))]),
+    ((3, 1), 3, &[&[1], &[2, 3], &[-1]], &[(1, None), (1, None)]),
+    // words 0 and 1
+    ((3, 2), 3, &[&[1], &[2, 3], &[-1]], &[(1, None), (3, None)]),
+    ((3, 2), 3, &[&[-1], &[2, 3], &[1]], &[(3, None), (1, None)]),
+    // words 0, 7, 8 and 15: (4) goes first, and from 8 the clause of three is met by 1
+    ((4, 1), 4, &[&[1, 2, 3], &[4]], &[(2, None), (2, Some(15)), (2, Some(9)), (1, Some(15))]),
+    ((4, 1), 4, &[&[1, 2], &[]], &[(1, None), (1, None), (1, None), (1, None)]),
+    // words 0, 7, 8 and 15 in two blocks, of three and of two
+    ((3, 1), 5, &[&[1], &[2], &[3], &[4], &[-5], &[1, 2]], &[(3, None), (2, Some(15)), (3, None), (1, Some(15))]),
+    ((3, 1), 5, &[&[1, 2], &[]], &[(1, None), (1, None), (1, None), (1, None)]),
+    // the last block has one variable, and one word
+    ((3, 1), 4, &[&[1], &[2], &[3], &[4], &[1, 2]], &[(3, None), (2, Some(15))]),
+    ((2, 1), 3, &[&[1], &[2], &[3], &[1, 2]], &[(3, None), (3, Some(7))]),
+    // the assignments in order: 3 is the only model, or 5 and 7 are
+    ((1, 0), 3, &[&[1], &[2], &[-3], &[1, 2]], &ONLY_THREE),
+    ((2, 0), 3, &[&[1], &[3], &[1, 2]], &FIVE_AND_SEVEN),
+];
+
+const ONLY_THREE: [(u32, Option<u32>); 8] =
+    [(1, None), (1, None), (1, None), (1, Some(3)), (1, None), (1, None), (1, None), (1, None)];
+const FIVE_AND_SEVEN: [(u32, Option<u32>); 8] =
+    [(1, None), (1, None), (1, None), (1, None), (1, None), (1, Some(5)), (1, None), (1, Some(7))];
+
+// From each ball with each budget up to one more than all balls need, and with the highest.
+fn each_ball_agrees(codes: &mut Codes) -> bool {
+    EACH.iter().all(|(plan, n, clauses, balls)| {
+        let bytes = written(*n, clauses);
+        let all: u32 = balls.iter().map(|ball| ball.0).sum();
+        let budgets = || (0..=all + 1).chain([u32::MAX]);
+        (0..balls.len()).all(|next| {
+            budgets().all(|budget| {
+                let (later, ended) = by_hand(balls, next, budget);
+                leg_ends(codes, (*plan, budget), &bytes, [next as u64, later as u64], ended)
+            })
+        })
+    })
+}
+
+// Where the leg ends, and how.
+fn by_hand(balls: &[(u32, Option<u32>)], next: usize, budget: u32) -> (usize, Ended) {
+    let mut calls = 0;
+    for (ball, (needed, found)) in balls.iter().enumerate().skip(next) {
+        if calls + needed > budget {
+            return (ball, (3, [0; 4], calls));
+        }
+        calls += needed;
+        if let Some(marks) = found {
+            return (balls.len(), (1, [*marks, 0, 0, 0], calls));
+        }
+    }
+    (balls.len(), (2, [0; 4], calls))
+}
+
+// In a ball before the first that holds the model there is one path, as long as the radius allows. The leg begins so many before it.
+fn forced_legs_agree(codes: &mut Codes) -> bool {
+    FORCED.iter().all(|(plan, model, before, radius, far)| {
+        let bytes = forced(128, *model);
+        let count = count_balls(&blocks_of(codes, *plan, 128)).unwrap_or(0);
+        let at = *before as u64;
+        [0, 1, 30].into_iter().filter(|earlier| earlier <= before).all(|earlier| {
+            let calls = earlier * (radius + 1);
+            let mut says = |budget, to, ended| leg_ends(codes, (*plan, budget), &bytes, [at - earlier as u64, to], ended);
+            says(calls + far + 1, count, (1, *model, calls + far + 1))
+                && says(calls + far, at, (3, [0; 4], calls))
+                && (earlier == 0 || says(calls - 1, at - 1, (3, [0; 4], calls - radius - 1)))
+        })
+    })
+}
+
+// The plan, the number of variables, and the number of balls, if it is below 2^63.
+type Counted = ((u32, u32), u32, Option<u64>);
+
+const COUNTED: [Counted; 44] = [
+    ((1, 1), 128, Some(1)),
+    ((12, 12), 128, Some(1)),
+    ((12, 11), 128, Some(1024)),
+    ((11, 5), 128, Some(4096)),
+    ((3, 1), 128, Some(1 << 43)),
+    ((10, 3), 128, Some(13u64.pow(12) * 4)),
+    // two words for each variable, in blocks of any length
+    ((1, 0), 2, Some(4)),
+    ((1, 0), 61, Some(1 << 61)),
+    ((1, 0), 62, Some(1 << 62)),
+    ((1, 0), 63, None),
+    ((1, 0), 64, None),
+    ((1, 0), 65, None),
+    ((1, 0), 127, None),
+    ((1, 0), 128, None),
+    ((2, 0), 62, Some(1 << 62)),
+    ((2, 0), 63, None),
+    ((2, 0), 64, None),
+    ((12, 0), 62, Some(1 << 62)),
+    ((12, 0), 63, None),
+    ((12, 0), 64, None),
+    // the last block decides
+    ((2, 1), 124, Some(1 << 62)),
+    ((2, 1), 125, Some(1 << 62)),
+    ((2, 1), 126, None),
+    ((2, 1), 128, None),
+    ((4, 1), 125, Some(1 << 62)),
+    ((4, 1), 126, None),
+    ((4, 1), 128, None),
+    ((5, 1), 104, Some(1 << 62)),
+    ((5, 1), 105, None),
+    ((6, 1), 94, Some(1 << 62)),
+    ((6, 1), 95, None),
+    // numbers that are no power of two; in the last lines of these their lowest 64 bits are below 2^63
+    ((9, 2), 124, Some(24u64.pow(13) * 8)),
+    ((9, 2), 125, None),
+    ((9, 2), 126, None),
+    ((10, 1), 89, Some(135u64.pow(8) * 64)),
+    ((10, 1), 90, None),
+    ((10, 1), 94, None),
+    ((11, 1), 87, None),
+    ((11, 2), 119, Some(56u64.pow(10) * 24)),
+    ((11, 2), 120, None),
+    ((11, 2), 128, None),
+    ((12, 2), 113, Some(115u64.pow(9) * 2)),
+    ((12, 2), 114, None),
+    ((12, 2), 116, None),
+];
+
+// A sheet with an empty clause, so that each ball is one call, from the first ball, from the last ones, and from past them.
+fn count_agrees(codes: &mut Codes, plan: (u32, u32), n: u32, count: Option<u64>) -> bool {
+    let bytes = written(n, &[&[], &[1, 2]]);
+    let refuses = |codes: &mut Codes, next: u64, number: u32| {
+        let record = Checkpoint { batch: 2, n, block_length: plan.0, radius: plan.1, next };
+        legs_to(codes, (plan, 1), &bytes, [record; 2], LegReply::refused(number, 0))
+    };
+    let Some(count) = count else {
+        return [0, 1, 1 << 62, (1 << 63) - 1, 1 << 63, u64::MAX].iter().all(|next| refuses(codes, *next, 8));
+    };
+    let past = [count, count + 1, (1 << 32) + count - 1, 1 << 63, u64::MAX];
+    let mut says = |budget, from, to, ended| leg_ends(codes, (plan, budget), &bytes, [from, to], ended);
+    let several = count == 1
+        || says(1, 0, 1, (3, [0; 4], 1))
+            && says(1, count - 2, count - 1, (3, [0; 4], 1))
+            && says(2, count - 2, count, (2, [0; 4], 2));
+    several
+        && says(0, 0, 0, (3, [0; 4], 0))
+        && says(0, count - 1, count - 1, (3, [0; 4], 0))
+        && says(1, count - 1, count, (2, [0; 4], 1))
+        && past.iter().all(|next| refuses(codes, *next, 12))
+}
+
+// Beside the table every number of variables under the plans with short blocks, by the sizes of the codes that the library writes.
+fn ball_counts_agree(codes: &mut Codes) -> bool {
+    let mut sizes = HashMap::new();
+    let mut size = |t, s| *sizes.entry((t, s)).or_insert_with(|| library_code(t, s, &mut [0; 4096]).result as u128);
+    let mut product = |(b, s): (u32, u32), n: u32| {
+        let words = (0..n).step_by(b as usize).map(|at| b.min(n - at)).map(|t| size(t, s.min(t)));
+        words.fold(1u128, |count, words| count.saturating_mul(words))
+    };
+    let short = all_plans().into_iter().filter(|plan| plan.0 <= 6);
+    COUNTED.iter().all(|(plan, n, count)| count_agrees(codes, *plan, *n, *count))
+        && short.flat_map(|plan| (2..=128).map(move |n| (plan, n))).all(|(plan, n)| {
+            let count = u64::try_from(product(plan, n)).ok().filter(|count| count >> 63 == 0);
+            count_agrees(codes, plan, n, count)
+        })
+}
+
+// Under every plan two blocks and one variable, and the last two balls. No assignment meets the four clauses of the variables at the
+// border of the blocks: from each centre they need 3 calls, or just one where nothing may be flipped.
+fn last_balls_agree(codes: &mut Codes) -> bool {
+    all_plans().into_iter().all(|plan| {
+        let n = 2 * plan.0 + 1;
+        let [u, v] = [plan.0 as i32, plan.0 as i32 + 1];
+        let bytes = written(n, &[&[u, v], &[u, -v], &[-u, v], &[-u, -v]]);
+        let count = count_balls(&blocks_of(codes, plan, n)).unwrap_or(0);
+        let from = count.saturating_sub(2);
+        let each = if plan.1 == 0 { 1 } else { 3 };
+        let calls = each * (count - from) as u32;
+        let mut says = |budget, to, ended| leg_ends(codes, (plan, budget), &bytes, [from, to], ended);
+        says(calls, count, (2, [0; 4], calls)) && says(calls - 1, count - 1, (3, [0; 4], calls - each))
+    })
+}
+
+// The words of the blocks make up the number of a ball and its centre, which is found at once where it is the model: all first words,
+// all last ones, the last one of each block beside the first ones, and some others.
+fn centres_agree(codes: &mut Codes) -> bool {
+    let counted = COUNTED.iter().filter_map(|(plan, n, count)| count.map(|count| (*plan, *n, count)));
+    counted.filter(|(_, n, _)| *n > 2).all(|(plan, n, count)| {
+        let blocks = blocks_of(codes, plan, n);
+        let all = |word: &dyn Fn(usize, usize) -> usize| -> Vec<usize> {
+            blocks.iter().enumerate().map(|(i, block)| word(i, block.2.len())).collect()
+        };
+        let mut words = vec![all(&|_, _| 0), all(&|_, size| size - 1), all(&|i, size| (7 * i + 3) % size)];
+        words.extend((0..blocks.len()).map(|at| all(&|i, size| if i == at { size - 1 } else { 0 })));
+        words.iter().all(|digits| {
+            let sizes = blocks.iter().map(|block| block.2.len() as u64);
+            let ball = sizes.zip(digits).rev().fold(0, |ball, (size, digit)| ball * size + *digit as u64);
+            let model = words_of(whole_word(&blocks, digits));
+            leg_ends(codes, (plan, 1), &forced(n, model), [ball, count], (1, model, 1))
+        })
+    })
+}
+
+// The plan, the number of variables, the clauses, batch, n, block length and radius of the record, its next ball, and the number of the
+// refusal, or 0 where the sheet is Horn and has its answer.
+type Refusal = ((u32, u32), u32, &'static [&'static [i32]], [u32; 4], u64, u32);
+
+const FACT: [&[i32]; 1] = [&[1]];
+
+const REFUSALS: [Refusal; 46] = [
+    // each alone: a bad plan, a bad sheet, a Horn sheet, 2^63 balls, another search, a finished one
+    ((2, 3), 2, &FOUR, [2, 2, 2, 3], 0, 8),
+    ((0, 0), 2, &FOUR, [2, 2, 0, 0], 0, 8),
+    ((13, 1), 2, &FOUR, [2, 2, 13, 1], 0, 8),
+    ((2, 1), 129, &FOUR, [2, 129, 2, 1], 0, 5),
+    ((2, 1), 2, &FACT, [2, 2, 2, 1], 0, 0),
+    ((1, 0), 63, &FOUR, [2, 63, 1, 0], 0, 8),
+    ((2, 1), 2, &FOUR, [3, 2, 2, 1], 0, 11),
+    ((2, 1), 2, &FOUR, [2, 3, 2, 1], 0, 11),
+    ((2, 1), 2, &FOUR, [2, 2, 3, 1], 0, 11),
+    ((2, 1), 2, &FOUR, [2, 2, 2, 2], 0, 11),
+    ((2, 1), 2, &FOUR, [2, 2, 2, 1], 2, 12),
+    ((2, 1), 2, &FOUR, [2, 2, 2, 1], 3, 12),
+    ((2, 1), 2, &FOUR, [2, 2, 2, 1], 1 << 32, 12),
+    ((2, 1), 2, &FOUR, [2, 2, 2, 1], 1 << 63, 12),
+    ((2, 1), 2, &FOUR, [2, 2, 2, 1], u64::MAX, 12),
+    // a bad plan and each of the others; with it there is no number of balls
+    ((2, 3), 129, &FOUR, [2, 129, 2, 3], 0, 8),
+    ((2, 3), 2, &FACT, [2, 2, 2, 3], 0, 8),
+    ((2, 3), 2, &FOUR, [2, 2, 2, 1], 0, 8),
+    ((2, 3), 2, &FOUR, [2, 2, 2, 3], u64::MAX, 8),
+    // a bad sheet and each of those after it
+    ((2, 1), 129, &FACT, [2, 129, 2, 1], 0, 5),
+    ((1, 0), 129, &FOUR, [2, 129, 1, 0], 0, 5),
+    ((2, 1), 129, &FOUR, [3, 129, 2, 1], 0, 5),
+    ((2, 1), 129, &FOUR, [2, 129, 2, 1], u64::MAX, 5),
+    // a Horn sheet and each of those after it
+    ((1, 0), 63, &FACT, [2, 63, 1, 0], 0, 0),
+    ((1, 0), 128, &FACT, [2, 128, 1, 0], 0, 0),
+    ((2, 1), 2, &FACT, [3, 2, 2, 1], 0, 0),
+    ((2, 1), 2, &FACT, [2, 3, 2, 1], 0, 0),
+    ((2, 1), 2, &FACT, [2, 2, 3, 1], 0, 0),
+    ((2, 1), 2, &FACT, [2, 2, 2, 2], 0, 0),
+    ((2, 1), 2, &FACT, [2, 2, 2, 1], 2, 0),
+    ((2, 1), 2, &FACT, [2, 2, 2, 1], u64::MAX, 0),
+    // 2^63 balls and another search, or one past them
+    ((1, 0), 63, &FOUR, [3, 63, 1, 0], 0, 8),
+    ((1, 0), 63, &FOUR, [2, 62, 1, 0], 0, 8),
+    ((1, 0), 63, &FOUR, [2, 63, 2, 0], 0, 8),
+    ((1, 0), 63, &FOUR, [2, 63, 1, 1], 0, 8),
+    ((1, 0), 63, &FOUR, [2, 63, 1, 0], 1 << 63, 8),
+    ((1, 0), 63, &FOUR, [2, 63, 1, 0], u64::MAX, 8),
+    // another search that would be finished too, under this plan or under its own
+    ((2, 1), 2, &FOUR, [3, 2, 2, 1], 2, 11),
+    ((2, 1), 2, &FOUR, [2, 3, 2, 1], 2, 11),
+    ((2, 1), 2, &FOUR, [2, 2, 2, 0], 2, 11),
+    ((2, 1), 2, &FOUR, [2, 2, 2, 2], 1, 11),
+    ((2, 1), 2, &FOUR, [2, 2, 1, 1], u64::MAX, 11),
+    ((1, 0), 62, &FOUR, [2, 61, 1, 0], 1 << 62, 11),
+    // all at once, and then without the first, the second and so on
+    ((2, 3), 129, &FACT, [3, 2, 1, 1], u64::MAX, 8),
+    ((1, 0), 129, &FACT, [3, 2, 1, 1], u64::MAX, 5),
+    ((1, 0), 128, &FACT, [3, 2, 1, 1], u64::MAX, 0),
+];
+
+// Whatever the budget is, and the record stays.
+fn leg_refusals_agree(codes: &mut Codes) -> bool {
+    REFUSALS.iter().all(|(plan, n, clauses, [batch, own_n, block_length, radius], next, number)| {
+        let bytes = written(*n, clauses);
+        let record = Checkpoint { batch: *batch, n: *own_n, block_length: *block_length, radius: *radius, next: *next };
+        [0, 1, 2, 9, u32::MAX].into_iter().all(|budget| {
+            let (verdict, marks, calls) = if budget < 2 { (3, [0; 4], budget) } else { (1, [1, 0, 0, 0], 2) };
+            let expected = match number {
+                0 => LegReply { verdict, batch: 2, road: HORN, marks, calls, ..LegReply::default() },
+                // the third word is too large
+                5 => LegReply::refused(5, 2),
+                _ => LegReply::refused(*number, 0),
+            };
+            legs_to(codes, (*plan, budget), &bytes, [record; 2], expected)
+        })
+    })
+}
+
+// The answer under plan 1, 0, which has 2^n balls, to (1), which is Horn and clear at the second round, and to a sheet that is
+// not Horn and has an empty clause, so that each ball is one call; and the next ball after it.
+fn in_order(asked: ((u32, u32), u32), input: &Input, record: &Checkpoint) -> (LegReply, u64) {
+    let (plan, budget) = asked;
+    let refused = |number, place| (LegReply::refused(number, place), record.next);
+    let answer = |road, (verdict, marks, calls): Ended| LegReply { verdict, batch: 2, road, marks, calls, ..LegReply::default() };
+    if plan != (1, 0) {
+        return refused(8, 0);
+    }
+    let sheet = match &input.sheet {
+        Ok(sheet) => sheet,
+        Err(r) => return refused(r.0, r.1),
+    };
+    if sheet.terms.len() == 1 {
+        let ended = if budget < 2 { (3, [0; 4], budget) } else { (1, [1, 0, 0, 0], 2) };
+        return (answer(HORN, ended), record.next);
+    }
+    if sheet.n >= 63 {
+        return refused(8, 0);
+    }
+    if (record.batch, record.n, record.block_length, record.radius) != (2, sheet.n, 1, 0) {
+        return refused(11, 0);
+    }
+    if record.next >= 1 << sheet.n {
+        return refused(12, 0);
+    }
+    let left = (1 << sheet.n) - record.next;
+    let calls = left.min(budget as u64);
+    (answer(BALLS, (if calls == left { 2 } else { 3 }, [0; 4], calls as u32)), record.next + calls)
+}
+
+// The record, and others: one bit of a field that is compared changed, the lowest bit of two, one up and the other down, and two in
+// each other's place.
+fn near(record: Checkpoint) -> Vec<Checkpoint> {
+    let fields = [record.batch, record.n, record.block_length, record.radius];
+    let mut all = vec![fields];
+    for i in 0..4 {
+        let mut with = |change: &dyn Fn(&mut [u32; 4])| {
+            let mut other = fields;
+            change(&mut other);
+            all.push(other);
+        };
+        (0..32).for_each(|bit| with(&|f| f[i] ^= 1 << bit));
+        for j in (0..4).filter(|j| *j != i) {
+            with(&|f| (f[i], f[j]) = (f[i] ^ 1, f[j] ^ 1));
+            with(&|f| (f[i], f[j]) = (f[i].wrapping_add(1), f[j].wrapping_sub(1)));
+            with(&|f| f.swap(i, j));
+        }
+    }
+    let next = record.next;
+    all.into_iter().map(|[batch, n, block_length, radius]| Checkpoint { batch, n, block_length, radius, next }).collect()
+}
+
+// Whatever applies at once, the first in order decides: a bad plan, a bad sheet, the straight road, too many balls, another search,
+// a finished one. Nothing but a leg by balls moves the record, and it moves the next ball alone.
+fn leg_orders_agree(codes: &mut Codes) -> bool {
+    let torn = |clauses: &[&[i32]], n| {
+        let mut bytes = written(n, clauses);
+        bytes.truncate(bytes.len() - 4);
+        bytes
+    };
+    let [horn, balls]: [&[&[i32]]; 2] = [&[&[1]], &[&[], &[1, 2]]];
+    [2, 62, 63, 64, 128].into_iter().all(|n: u32| {
+        let inputs = [written(n, horn), written(n, balls), torn(horn, n), torn(balls, n)].map(Input::new);
+        let count = 1u64 << n.min(63);
+        let nexts = [0, count - 2, count - 1, count, count + 1, 1 << 63, u64::MAX];
+        let records: Vec<_> = nexts.map(|next| near(Checkpoint { batch: 2, n, block_length: 1, radius: 0, next })).concat();
+        [(1, 0), (1, 2), (0, 0), (13, 0)].into_iter().flat_map(|plan| (0..3).map(move |budget| (plan, budget))).all(|asked| {
+            inputs.iter().all(|input| {
+                records.iter().all(|record| {
+                    let (expected, next) = in_order(asked, input, record);
+                    legs_to(codes, asked, &input.bytes, [*record, Checkpoint { next, ..*record }], expected)
+                })
+            })
+        })
+    })
+}
+
+// A Horn sheet is answered as by a run, whatever the record is, which stays.
+fn horn_legs_agree(codes: &mut Codes) -> bool {
+    ROUNDS.iter().all(|(n, clauses, (verdict, marks, rounds))| {
+        let bytes = written(*n, clauses);
+        [(1, 0), (3, 1), (5, 5)].into_iter().all(|plan: (u32, u32)| {
+            let right = Checkpoint { batch: 2, n: *n, block_length: plan.0, radius: plan.1, next: 0 };
+            let others = [Checkpoint { batch: 3, ..right }, Checkpoint { n: n + 1, ..right }, Checkpoint { radius: 9, ..right }];
+            let finished = [1, 2, 1 << 62, 1 << 63, u64::MAX].map(|next| Checkpoint { next, ..right });
+            let records = [&[right][..], &others, &finished].concat();
+            [0, rounds - 1, *rounds, rounds + 1, u32::MAX].into_iter().all(|budget| {
+                let (verdict, marks) = if budget < *rounds { (3, [0; 4]) } else { (*verdict, *marks) };
+                let reply = Reply { verdict, batch: 2, road: HORN, marks, calls: budget.min(*rounds), ..Reply::default() };
+                records.iter().all(|record| legs_to(codes, (plan, budget), &bytes, [*record; 2], LegReply::of(reply)))
+            })
+        })
+    })
+}
+
+// From the start a leg is a run where that comes to its end, but for the record.
+fn first_legs_agree(codes: &mut Codes) -> bool {
+    let mut agrees = |(plan, budget, n, clauses, (road, verdict, marks, calls)): &Worked| {
+        let bytes = written(*n, clauses);
+        let start = Checkpoint { batch: 2, n: *n, block_length: plan.0, radius: plan.1, next: 0 };
+        let worked = Reply { verdict: *verdict, batch: 2, road: *road, marks: *marks, calls: *calls, ..Reply::default() };
+        let asked = (*plan, *budget);
+        match count_balls(&blocks_of(codes, *plan, *n)) {
+            _ if *road == HORN => legs_to(codes, asked, &bytes, [start; 2], LegReply::of(worked)),
+            None => legs_to(codes, asked, &bytes, [start; 2], LegReply::refused(8, 0)),
+            Some(_) if *verdict == 3 => {
+                let [mut got, mut own] = [start; 2];
+                let reply = library_leg(*plan, *budget, &bytes, &mut got);
+                reply.verdict == 3 && reply == leg(codes, *plan, *budget, &bytes, &mut own) && got == own
+            }
+            Some(next) => legs_to(codes, asked, &bytes, [start, Checkpoint { next, ..start }], LegReply::of(worked)),
+        }
+    };
+    WORKED.iter().chain(&CHOSEN).chain(&SPARED).chain(&NEARLY).all(&mut agrees)
+}
+
+// Each of the sheet's own refusals, after that of the plan, whatever the record is.
+fn refused_sheets_agree(codes: &mut Codes) -> bool {
+    let right = Checkpoint { batch: 4 << 16 | 5, n: 2, block_length: 1, radius: 1, next: 0 };
+    let finished = Checkpoint { next: u64::MAX, ..right };
+    let other = Checkpoint { batch: 4, n: 3, block_length: 1, radius: 2, next: 1 };
+    refused_sheets().iter().all(|(bytes, number, place)| {
+        [right, finished, other].into_iter().all(|record| {
+            let mut says = |plan, budget, reply| legs_to(codes, (plan, budget), bytes, [record; 2], reply);
+            [0, 1, 9, u32::MAX].into_iter().all(|budget| {
+                says((1, 1), budget, LegReply::refused(*number, *place))
+                    && says((12, 0), budget, LegReply::refused(*number, *place))
+                    && says((1, 2), budget, LegReply::refused(8, 0))
+            })
+        })
+    })
+}
+
 // ---- fixed tallies
 
 // Marks, the first numbers, and unmet.
@@ -2275,12 +2980,11 @@ fn toggles_agree() -> bool {
     })
 }
 
-// Each of the sheet's own refusals goes before refusal 10, and leaves everything, as it does at the beginning. A run has no road then,
-// and refuses a bad plan before the sheet. Splitting refuses the sheet whatever the budget.
-fn refusals_agree() -> bool {
+// Sheets that are refused, with the number and the place.
+fn refused_sheets() -> [(Vec<u8>, u32, u32); 10] {
     let head = [3 << 30 | 4, 3 << 30 | 5, 2 << 30 | 2];
     let sheet = |rest: &[u32]| -> Vec<u8> { head.iter().chain(rest).flat_map(|w| w.to_le_bytes()).collect() };
-    let refused = [
+    [
         // too long goes before ragged, ragged before headless
         (vec![0; 36_877], 5, 9_219),
         (vec![0; 7], 1, 0),
@@ -2292,8 +2996,13 @@ fn refusals_agree() -> bool {
         (sheet(&[1 << 30; 1025]), 5, 1027),
         (sheet(&[1 << 30 | 1, 6]), 6, 4),
         (sheet(&[1 << 30 | 2, 2, 3]), 7, 5),
-    ];
-    refused.iter().all(|(bytes, number, place)| {
+    ]
+}
+
+// Each of the sheet's own refusals goes before refusal 10, and leaves everything, as it does at the beginning. A run has no road then,
+// and refuses a bad plan before the sheet. Splitting refuses the sheet whatever the budget.
+fn refusals_agree() -> bool {
+    refused_sheets().iter().all(|(bytes, number, place)| {
         let expected = TallyReply { number: *number, place: *place };
         let before = lend(([6, 7, 8, 9], &[1, 2, 3], 7));
         let mut got = before.clone();
@@ -2748,6 +3457,69 @@ fn few_balls(r: &mut Random, codes: &mut Codes, n: u32) -> (u32, u32) {
     }
 }
 
+// A plan with several balls that are not too many, if one is found. With many variables only long blocks have as few.
+fn several_balls(r: &mut Random, codes: &mut Codes, n: u32) -> (u32, u32) {
+    for _ in 0..8 {
+        let b = r.range(1, 8) as u32;
+        let plan = (b, r.below(b as u64 + 1) as u32);
+        if count_balls(&blocks_of(codes, plan, n)).is_some_and(|count| (2..=4096).contains(&count)) {
+            return plan;
+        }
+    }
+    few_balls(r, codes, n)
+}
+
+// The record of the sheet at any ball, often one of the first or of the last, and seldom past them. A quarter of the records is of
+// another search. The count is that of the balls, if there is one.
+fn random_record(r: &mut Random, plan: (u32, u32), input: &Input, count: Option<u64>) -> Checkpoint {
+    let count = count.unwrap_or(1 << 63);
+    let next = match r.below(12) {
+        0 => 0,
+        1 => count - 1,
+        2 => count + r.below(3),
+        3 => [count ^ 1 << 32, 1 << 63, u64::MAX, r.next()][r.below(4) as usize],
+        4 | 5 => count - 1 - r.below(count.min(20)),
+        6..=8 => r.below(count.min(600)),
+        _ => r.next() % count,
+    };
+    let other = Sheet { batch: r.next() as u32, n: r.below(129) as u32, terms: Vec::new() };
+    let mut record = Checkpoint::of(plan, input.sheet.as_ref().unwrap_or(&other), next);
+    match r.below(20) {
+        0 => record.batch ^= 1 << r.below(32),
+        1 => record.n ^= 1 << r.below(8),
+        2 => record.block_length ^= 1 << r.below(4),
+        3 => record.radius ^= 1 << r.below(4),
+        4 => record = Checkpoint::of(random_plan(r), &other, next),
+        _ => {}
+    }
+    record
+}
+
+// The sheet damaged so that it is refused.
+fn spoilt(r: &mut Random, sheet: &Sheet) -> Vec<u8> {
+    let mut bytes = write(sheet);
+    damage(r, &mut bytes);
+    if read(&bytes).is_ok() {
+        bytes.push(0);
+    }
+    bytes
+}
+
+// The plan and the sheet of a leg that leaves the record: a bad plan, a damaged sheet, another block length, radius, n or batch, and the
+// Horn terms of the sheet alone.
+fn idle_leg(r: &mut Random, (b, s): (u32, u32), sheet: &Sheet) -> ((u32, u32), Vec<u8>) {
+    let horn = || sheet.terms.iter().filter(|t| positive(t).count() < 2).cloned().collect();
+    match r.below(7) {
+        0 => ((b, b + 1 + r.below(2) as u32), spoilt(r, sheet)),
+        1 => ((b, s), spoilt(r, sheet)),
+        2 => ((b % 8 + 1, s.min(b % 8 + 1)), write(sheet)),
+        3 => ((b, (s + 1) % (b + 1)), write(sheet)),
+        4 if sheet.n < 128 => ((b, s), write(&Sheet { n: sheet.n + 1, ..sheet.clone() })),
+        5 => ((b, s), write(&Sheet { terms: horn(), ..*sheet })),
+        _ => ((b, s), write(&Sheet { batch: sheet.batch ^ 1 << r.below(32), ..sheet.clone() })),
+    }
+}
+
 // Two terms of the sheet, and for an eighth of the sheets also the first, the last, and two past the last. A sheet that is
 // refused has no terms: there the numbers are those of 1,024 terms.
 fn random_clauses(r: &mut Random, sheet: &Result<Sheet, Refused>) -> Vec<u32> {
@@ -2878,6 +3650,32 @@ struct Splits {
     alikes: u64,
 }
 
+// The searches in legs.
+const SEARCHES: [&str; 3] = ["any budgets and idle legs in between", "enough for a ball in each leg", "a growing sheet"];
+const ENOUGH: usize = 1;
+const GROWING: usize = 2;
+
+// What agreed of legs. Kinds are by road and verdict, large those for more than 32 variables, and numbers those of refusals. Later are
+// answers by balls from one that is not the first, and moved spent ones after at least one ball. Meant are clear answers whose marks
+// were tried, and none and spent ones that all assignments were tried for; budgets are those under larger budgets. Searches are by
+// kind and verdict, made the legs in them, idle those in between, and full the searches with as many legs as balls. Trials are the
+// searches whose end all assignments were tried for.
+#[derive(Default)]
+struct Legs {
+    kinds: [[u64; 4]; 3],
+    large: [[u64; 4]; 3],
+    numbers: [u64; 13],
+    later: u64,
+    moved: u64,
+    meant: [u64; 3],
+    budgets: u64,
+    searches: [[u64; 2]; SEARCHES.len()],
+    made: [u64; SEARCHES.len()],
+    idle: u64,
+    full: u64,
+    trials: u64,
+}
+
 // How many answers of each kind agreed, how often each saying applied, and how many disagreements. Kinds, large and parts are numbers of
 // each stream: all answers by road and verdict, those for more than 32 variables, and the clear and none ones with each of the parts of
 // papers 4, 6 and 7. For each of the four words of an assignment, tried counts the runs with a code word that has bits there, and paid
@@ -2907,6 +3705,7 @@ struct Totals {
     twice: u64,
     holding: u64,
     splits: Splits,
+    legs: Legs,
     failed: u64,
 }
 
@@ -2960,6 +3759,20 @@ impl Totals {
         self.check(tally_ends_agree(), || "a fixed tally at the end of a word differs".into());
         self.check(refusals_agree(), || "a refusal of a fixed tally differs".into());
         self.check(standings_agree(), || "what a fixed tally says of all terms differs".into());
+    }
+
+    fn fixed_legs(&mut self, codes: &mut Codes) {
+        self.check(legs_agree(codes), || "a fixed leg differs".into());
+        self.check(each_ball_agrees(codes), || "a leg from some ball with some budget differs".into());
+        self.check(forced_legs_agree(codes), || "a leg with one model in four words differs".into());
+        self.check(ball_counts_agree(codes), || "a leg at the first or last balls, or past them, differs".into());
+        self.check(last_balls_agree(codes), || "a leg from the last two balls differs".into());
+        self.check(centres_agree(codes), || "a leg from the ball around its model differs".into());
+        self.check(leg_refusals_agree(codes), || "a refusal of a fixed leg differs".into());
+        self.check(leg_orders_agree(codes), || "a leg where several refusals apply differs".into());
+        self.check(horn_legs_agree(codes), || "a leg of a Horn sheet differs".into());
+        self.check(first_legs_agree(codes), || "a leg from the start differs from a fixed run".into());
+        self.check(refused_sheets_agree(codes), || "a leg of a sheet that is refused differs".into());
     }
 
     fn alike(&mut self, r: &mut Random, bytes: &[u8]) {
@@ -3166,7 +3979,9 @@ impl Totals {
                 self.budgets(r, plan, bytes, &got);
             }
         }
-        self.split(&mut r.fork(), stream, plan, bytes, &got);
+        let mut fork = r.fork();
+        self.split(&mut fork, stream, plan, bytes, &got);
+        self.legs(&mut fork, codes, plan, bytes);
         got
     }
 
@@ -3294,6 +4109,188 @@ impl Totals {
         self.splits.budgets += 1;
         let fine = enough.into_iter().all(same) && fewer.into_iter().all(spent);
         self.check(fine, || format!("split sheet {:?}: {:?} is not kept by other budgets", input.bytes, got));
+    }
+
+    // The sheet of a run: for a share of them a leg from any record, and for fewer a whole search in legs.
+    fn legs(&mut self, r: &mut Random, codes: &mut Codes, plan: (u32, u32), bytes: &[u8]) {
+        // each leg makes the code anew: the longer the blocks, the rarer
+        let rare = if plan.0 > 9 { 10 } else { 1 };
+        let [leg, search] = [r.below(3 * rare) == 0, r.below(16) == 0];
+        if !leg && !search {
+            return;
+        }
+        let input = Input::new(bytes.to_vec());
+        if leg {
+            self.any_leg(r, codes, plan, &input);
+        }
+        if let (true, Ok(sheet)) = (search && !input.terms().is_empty(), &input.sheet) {
+            let plan = if is_plan(plan) && r.below(3 * rare) == 0 { plan } else { several_balls(r, codes, sheet.n) };
+            match r.below(4) as usize {
+                GROWING.. if sheet.n <= 10 => self.growing(r, codes, plan, sheet),
+                kind => self.search(r, codes, kind, plan, &input),
+            }
+        }
+    }
+
+    fn any_leg(&mut self, r: &mut Random, codes: &mut Codes, plan: (u32, u32), input: &Input) {
+        let count = if is_plan(plan) { count_balls(&blocks_of(codes, plan, input.n())) } else { None };
+        let before = random_record(r, plan, input, count);
+        let high = [0, 1, 3, 30, 400][r.below(5) as usize];
+        let mut record = before;
+        let got = self.leg(codes, (plan, r.below(high + 1) as u32), input, &mut record);
+        if got.decided() && r.below(2) == 0 {
+            self.leg_budgets(r, plan, input, [before, record], &got);
+            // one call fewer than needed
+            self.leg(codes, (plan, got.calls - 1), input, &mut before.clone());
+        }
+    }
+
+    // The reply and the record are compared, and those of the library handed on.
+    fn leg(&mut self, codes: &mut Codes, asked: ((u32, u32), u32), input: &Input, record: &mut Checkpoint) -> LegReply {
+        let (plan, budget) = asked;
+        let before = *record;
+        let mut after = before;
+        let expected = leg(codes, plan, budget, &input.bytes, &mut after);
+        let got = library_leg(plan, budget, &input.bytes, record);
+        let [due, came] = [(expected, after), (got, *record)];
+        let tell = || format!("leg {:?} {:?} sheet {:?}: expected {:?}, got {:?}", asked, before, input.bytes, due, came);
+        self.check(due == came, tell);
+        if due == came {
+            let [road, verdict] = [got.road as usize, got.verdict as usize];
+            self.legs.kinds[road][verdict] += 1;
+            self.legs.large[road][verdict] += (input.sheet.is_ok() && input.n() > 32) as u64;
+            self.legs.numbers[got.number as usize] += 1;
+        }
+        if let (Ok(sheet), BALLS, true) = (&input.sheet, got.road, due == came) {
+            self.leg_means(&blocks_of(codes, plan, sheet.n), sheet, [before, after], &got);
+        }
+        got
+    }
+
+    // From any record a clear has a model, and none and spent say that there is none in the balls gone through.
+    fn leg_means(&mut self, blocks: &[Block], sheet: &Sheet, [before, after]: [Checkpoint; 2], got: &LegReply) {
+        let moved = after.next > before.next;
+        self.legs.later += (before.next > 0) as u64;
+        self.legs.moved += (got.verdict == 3 && moved) as u64;
+        let fine = match got.verdict {
+            1 => sheet.terms.iter().all(|t| is_true(t, join(got.marks))),
+            _ if sheet.n > 10 || !moved => return,
+            _ => emptied(sheet, blocks, before.next..after.next),
+        };
+        self.legs.meant[got.verdict as usize - 1] += 1;
+        self.check(fine, || format!("{:?}: {:?} from {:?} to {:?} is not what its models say", sheet, got, before, after));
+    }
+
+    // Reply and record of a clear or none stay the same under every larger budget.
+    fn leg_budgets(&mut self, r: &mut Random, plan: (u32, u32), input: &Input, records: [Checkpoint; 2], got: &LegReply) {
+        let fine = [0, 1, 1 + r.below(1000) as u32, u32::MAX].iter().all(|more| {
+            let mut record = records[0];
+            library_leg(plan, got.calls.saturating_add(*more), &input.bytes, &mut record) == *got && record == records[1]
+        });
+        self.legs.budgets += 1;
+        let tell = || format!("leg {:?} {:?} sheet {:?}: {:?} is not kept by other budgets", plan, records[0], input.bytes, got);
+        self.check(fine, tell);
+    }
+
+    // From the start until a leg says clear or none, if a run comes to its end soon: the calls of the legs add up to those of the run,
+    // and the last one has its verdict and marks. With enough for a ball in each leg there are not more legs than balls.
+    fn search(&mut self, r: &mut Random, codes: &mut Codes, kind: usize, plan: (u32, u32), input: &Input) {
+        let ran = library_run(plan, 5000, &input.bytes);
+        let blocks = blocks_of(codes, plan, input.n());
+        let (Ok(sheet), Some(count), BALLS, true) = (&input.sheet, count_balls(&blocks), ran.road, ran.decided()) else {
+            return;
+        };
+        let most = most_in_ball(longest_term(sheet), blocks.iter().map(|b| b.1).sum());
+        let enough = Some(most as u64).filter(|_| kind == ENOUGH && most <= 5000);
+        let high = r.range(1, 2 + ran.calls as u64 / 4) + ran.calls as u64 / 200;
+        let mut record = Checkpoint::of(plan, sheet, 0);
+        let (last, legs, calls) = self.until_decided(r, codes, input, &mut record, (enough, high));
+        self.ended(if enough.is_some() { ENOUGH } else { 0 }, legs, sheet, &last);
+        self.legs.full += (enough.is_some() && count > 1 && legs == count) as u64;
+        let same = (last.verdict, last.marks, calls) == (ran.verdict, ran.marks, ran.calls as u64);
+        let few = enough.is_none() || legs <= count;
+        let done = Checkpoint::of(plan, sheet, count);
+        let fine = same && few && record == done && self.leg(codes, (plan, 9), input, &mut record).number == 12;
+        let tell = || format!("{:?}: {} legs, {} calls, then {:?} {:?}, by a run {:?}", sheet, legs, calls, last, record, ran);
+        self.check(fine, tell);
+    }
+
+    // The last leg, the number of them and their calls. Where enough is given no leg has less; otherwise they have up to a high
+    // number, with idle legs in between.
+    fn until_decided(
+        &mut self,
+        r: &mut Random,
+        codes: &mut Codes,
+        input: &Input,
+        record: &mut Checkpoint,
+        (enough, mut high): (Option<u64>, u64),
+    ) -> (LegReply, u64, u64) {
+        let (mut legs, mut calls, failed) = (0, 0, self.failed);
+        loop {
+            let budget = match enough {
+                Some(least) => least + r.below(2) * r.below(least),
+                None => {
+                    self.idle(r, codes, input, record);
+                    r.below(high + 1)
+                }
+            };
+            let before = *record;
+            let got = self.leg(codes, ((record.block_length, record.radius), budget as u32), input, record);
+            legs += 1;
+            calls += got.calls as u64;
+            if got.verdict != 3 || self.failed > failed {
+                return (got, legs, calls);
+            }
+            // so that a ball that needs more than this comes to its turn
+            high <<= (*record == before) as u32;
+        }
+    }
+
+    // After so many legs from the start clear is said where there is a model and none where there is not.
+    fn ended(&mut self, kind: usize, legs: u64, sheet: &Sheet, last: &LegReply) {
+        self.legs.searches[kind][(last.verdict == 2) as usize] += 1;
+        self.legs.made[kind] += legs;
+        if sheet.n <= 12 {
+            self.legs.trials += 1;
+            let fine = (last.verdict == 1) == models(sheet).next().is_some();
+            self.check(fine, || format!("{:?}: after {} legs {:?} is not what all assignments say", sheet, legs, last));
+        }
+    }
+
+    // A third of the times a leg that leaves the record: it is refused, or its sheet is Horn.
+    fn idle(&mut self, r: &mut Random, codes: &mut Codes, input: &Input, record: &mut Checkpoint) {
+        let (0, Ok(sheet)) = (r.below(3), &input.sheet) else {
+            return;
+        };
+        let before = *record;
+        let (plan, bytes) = idle_leg(r, (record.block_length, record.radius), sheet);
+        let got = self.leg(codes, (plan, r.below(30) as u32), &Input::new(bytes), record);
+        self.legs.idle += 1;
+        let fine = *record == before && (got.number != 0 || got.road == HORN);
+        self.check(fine, || format!("leg {:?} between legs on {:?}: {:?} {:?}, before {:?}", plan, sheet, got, record, before));
+    }
+
+    // Each leg has the terms of the leg before and some more of the sheet. What the last one says is right for its own.
+    fn growing(&mut self, r: &mut Random, codes: &mut Codes, plan: (u32, u32), sheet: &Sheet) {
+        let all = sheet.terms.len() as u64;
+        let mut turns: Vec<u64> = (0..all).collect();
+        shuffle(r, &mut turns);
+        let mut record = Checkpoint::of(plan, sheet, 0);
+        let (mut held, mut high, failed) = (r.below(all), r.range(1, 40), self.failed);
+        for legs in 1..=300 {
+            let terms = sheet.terms.iter().zip(&turns).filter(|(_, turn)| **turn < held).map(|(term, _)| term.clone());
+            let grown = Sheet { terms: terms.collect(), ..*sheet };
+            let before = record;
+            let got = self.leg(codes, (plan, r.below(high + 1) as u32), &Input::new(write(&grown)), &mut record);
+            if got.road == BALLS && got.decided() {
+                return self.ended(GROWING, legs, &grown, &got);
+            }
+            if got.number != 0 || held == all && got.road == HORN || self.failed > failed {
+                return;
+            }
+            high <<= (record == before && high < 5000) as u32;
+            held = all.min(held + r.below(3));
+        }
     }
 
     // Rounds are bounded as calls are, and by the number of variables: each round but the last pays one.
@@ -3470,6 +4467,7 @@ impl Totals {
         let [refused, strange, other, own] = toggles;
         println!("toggles: refused {} no such variable {} own sheet {} other sheet or numbers {}", refused, strange, own, other);
         self.print_splits();
+        self.print_legs();
         println!("differential: {} passed, {} failed", inputs.saturating_sub(self.failed), self.failed);
     }
 
@@ -3500,6 +4498,23 @@ impl Totals {
         }
         println!("alike sheets, both clear or both none {}", alikes);
     }
+
+    fn print_legs(&self) {
+        let Legs { kinds, large, numbers, later, moved, meant, budgets, searches, made, idle, full, trials } = &self.legs;
+        println!("by legs:");
+        let by = |[_, clear, none, spent]: [u64; 4]| format!("clear {} none {} spent {}", clear, none, spent);
+        let all: u64 = kinds.iter().flatten().sum();
+        println!("{} legs: refused {}, by rounds {}, by balls {}", all, kinds[0][0], by(kinds[1]), by(kinds[2]));
+        println!("    with n above 32: by rounds {}, by balls {}", by(large[1]), by(large[2]));
+        println!("    from a ball that is not the first {} spent after some balls {}", later, moved);
+        println!("refusals 1 to 8: {:?} another batch, n or plan {} finished {}", &numbers[1..9], numbers[11], numbers[12]);
+        println!("clear marks tried {} all assignments tried, n up to 10: none {} spent {}", meant[0], meant[1], meant[2]);
+        println!("the same with larger budgets {}", budgets);
+        for (i, name) in SEARCHES.iter().enumerate() {
+            println!("searches with {}: clear {} none {} legs {}", name, searches[i][0], searches[i][1], made[i]);
+        }
+        println!("    idle legs {} as many legs as balls {} all assignments tried, n up to 12: {}", idle, full, trials);
+    }
 }
 
 fn main() {
@@ -3514,6 +4529,7 @@ fn main() {
     let mut codes = Codes(HashMap::new());
     let mut totals = Totals::default();
     totals.fixed(&mut codes);
+    totals.fixed_legs(&mut codes);
     totals.small(&mut rounds, &mut codes);
     for _ in 0..inputs {
         let bytes = random_bytes(&mut r);

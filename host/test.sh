@@ -1,6 +1,6 @@
 #!/bin/sh
-# Builds the static library, runs the C host on the sample, on Horn sheets, by splitting and on bad arguments, and compares the
-# library with an independent implementation. test.sh [INPUTS]
+# Builds the static library, runs the C host on the sample, on Horn sheets, by splitting and on bad arguments, and the host of searches
+# in legs (test_legs.py), and compares the library with an independent implementation. test.sh [INPUTS]
 set -eu
 cd "$(dirname "$0")/.."
 mkdir -p target/host
@@ -9,6 +9,7 @@ rt staticlib engine >target/host/staticlib.log 2>&1 || {
     exit 1
 }
 gcc -O2 -Wall -Wextra -Werror host/clear.c target/staticlib/libengine.a -o target/host/clear
+gcc -O2 -Wall -Wextra -Werror host/legs.c target/staticlib/libengine.a -o target/host/legs
 tail -c +13 crates/clearing/stdin >target/host/sheet
 echo 'batch 7 n 128 (1 32 33 64) (65 96 97 128) (-33 -128)' | tools/sheet write - -o target/host/wide
 # what follows from a fact stands before it; the second sheet holds it
@@ -161,5 +162,6 @@ declines split 1 9 target/host/sheet
 declines split 3 1 9 target/host/sheet
 echo "host: printed the lines of the sample and of Horn sheets, what splitting says of them, how clauses stand and a tally, and" \
     "declined what is no number"
+python3 host/test_legs.py
 rustc --edition 2021 -O host/differential.rs -L target/staticlib -l static=engine -o target/host/differential
 target/host/differential "${1:-200000}"

@@ -5,10 +5,10 @@
 
    - A sheet's buffer has at least `length` bytes, a table at least `cells` cells, and an array its number of elements. They must be
      valid during the call, and need live no longer: the library keeps no pointer. Meanwhile nobody writes them, and nobody reads
-     the table or a tally. A pointer may be null where its length is 0. The two sheets of alike, and the two arrays of
+     the table, a tally or a record. A pointer may be null where its length is 0. The two sheets of alike, and the two arrays of
      clause_counts, may share a buffer; the parts of a tally and its sheet may not.
-   - There is enough stack: run takes about 325 KB at its deepest (191 KB with 32 variables, 147 KB on a Horn sheet), split 215 KB,
-     alike 74 KB, clause_counts and the operations on a tally 37 KB, covering_code 32 KB (docs/BENCH.md).
+   - There is enough stack: run takes about 375 KB at its deepest (241 KB with 32 variables, 97 KB on a Horn sheet), leg 332 KB (199 KB
+     with 32 variables, 114 KB on a Horn sheet), split 215 KB, alike 74 KB, clause_counts and the operations on a tally 37 KB, covering_code 32 KB (docs/BENCH.md).
 
    In every reply `number` and `place` are the refusal's number and place (README.md has the table); both are 0 where nothing
    is refused, and a refusal is told by number not 0. What does not belong to an answer is 0. */
@@ -61,6 +61,41 @@ struct reply run(uint32_t block_length, uint32_t radius, uint32_t budget, const 
    order where variable 1 weighs most and 0 precedes 1. Whenever neither split nor a run of the same sheet is refused or spent,
    both say clear or both say none; their marks may differ. */
 struct reply split(uint32_t budget, const uint8_t *sheet, size_t length);
+
+/* A parked search: the batch number, n and the plan that it belongs to, and the next ball. The host fills it once, with next 0, which is
+   the start, and lends it to each leg. */
+struct checkpoint {
+    uint32_t batch;
+    uint32_t n;
+    uint32_t block_length;
+    uint32_t radius;
+    uint64_t next;
+};
+
+/* The fields of a reply, and then the sheet that a refusal is about: 1 at every refusal, else 0. */
+struct leg_reply {
+    uint32_t verdict;
+    uint32_t batch;
+    uint32_t road;
+    uint32_t marks[ENGINE_WORDS];
+    uint32_t calls;
+    uint32_t number;
+    uint32_t place;
+    uint32_t sheet;
+};
+
+/* One leg of a search that is parked in the record. A bad plan is refused first (8), then a bad sheet. A Horn sheet is never parked: it
+   is answered as run answers it, and the record stays. Then 8 again where there are 2^63 balls or more (M), 11 where the batch number, n or the
+   plan differ from the record's, 12 where next is M or more, each with place 0. Otherwise the leg works whole balls from next on, within
+   budget calls. A ball that needs more calls than the leg has left is not counted: the leg ends spent at it, with the calls of the
+   balls that it finished as its calls and that ball as next. A clear or none leaves next M. A refusal leaves the record as it came.
+
+   On one sheet, from the start until a leg says clear or none, the legs' calls add up to those that one run needs, and the last
+   verdict and marks are those of that run carried to its end. Refused legs in between do no harm, and budgets may differ. Where each leg has at
+   least 1 + k + ... + k^R calls and none is refused, there are at most M legs. From any other record a none says only that no assignment
+   within R of the centres from next on meets every clause. The host sees to it that a record is lent with its own sheet. */
+struct leg_reply leg(uint32_t block_length, uint32_t radius, uint32_t budget, const uint8_t *sheet, size_t length,
+                     struct checkpoint *record);
 
 /* How a clause stands: how many of its literals are met, and how many are open, that is not met and with a variable that is not
    flipped. */

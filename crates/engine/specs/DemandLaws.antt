@@ -12,7 +12,7 @@ use Rattle.words.specs.Bits.{width}
 use Rattle.words.specs.WordLaws.{words-number}
 use Rattle.words.specs.Lists.{In}
 use Rattle.words.specs.ListLaws.{apart, length-keep}
-use Rattle.formula.specs.Formula.{Clause, Formula, WellFormed}
+use Rattle.formula.specs.Formula.{Clause, Formula, WellFormed, Satisfiable}
 use Rattle.formula.specs.Sheet.{Result, accepted, parse}
 use Rattle.formula.specs.Sets.{stands}
 use Rattle.formula.specs.ModelLaws.{wellFormed-known}
@@ -25,8 +25,8 @@ use Rattle.tree.specs.Explore.{Outcome, found, calls, powers}
 use Rattle.tree.specs.TreeLaws.{powers-none, powers-most}
 use Rattle.tree.specs.Budget as Budget
 use Rattle.tree.specs.Budget.{answer}
-use Rattle.tree.specs.BudgetLaws.{countOf, assignmentOf, clear-found}
-use Rattle.tree.specs.Decides.{Decides, IsClear, IsNone, IsSpent, Correct, answer-correct, answer-stays, further-none}
+use Rattle.tree.specs.BudgetLaws.{countOf, assignmentOf, clear-found, none-none}
+use Rattle.tree.specs.Decides.{Decides, IsClear, IsNone, IsSpent, Correct, none-unsat, answer-correct, answer-stays, further-none}
 use Rattle.search.specs.Run.{Plan, Block, Code, searchOf, run, blocks, centreCount, summedRadius, product, longest}
 use Rattle.search.specs.CentreLaws.{Covering, blocks-size, blocks-covered, radius-same, blocks-most}
 use Rattle.search.specs.ReachLaws.{centres-reach}
@@ -40,7 +40,7 @@ use Rattle.engine.specs.Answers.{outcome, answered, refusal, judged, dec
 
 -- ---- the engine's search
 
-covering : Covering code
+pub covering : Covering code
 covering = record { covers = code-covers; within = code-within }
 
 -- what holds of rounds, where the formula is Horn, and of balls, holds of the outcome
@@ -228,6 +228,13 @@ reply-right p A s f h =
     let decides = outcome-decides p f formed in
     rw (reply-accepted p A s f h)
     (numbers-right f (decidedBy f) _ A _ (formed .variables) (answer-correct (f .n) (f .clauses) (outcome p f) decides A))
+
+-- after a none there is no model
+pub reply-none : (p : Plan) (A : ℕ) (s : List ℕ) (f : Formula) → Accepted p s f → replyTo p A s .verdict ≡ NONE →
+    Satisfiable (f .n) (f .clauses) → ⊥
+reply-none p A s f h v =
+    let (c, e) = none-number (f .batch) (decidedBy f) _ .0 (rw (reply-accepted p A s f h) at v) in
+    none-unsat (f .n) (f .clauses) (outcome p f) (outcome-decides p f (parse-well-formed s f (h .sheet))) c (none-none A _ c e)
 
 -- ---- demand 3
 

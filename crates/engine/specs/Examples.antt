@@ -1,10 +1,10 @@
 -- The settled examples of paper 01 as papers 7 and 9 of 02 amend them, the one of paper 4, one over four words
--- by each road, one for each of paper 6's two rules, two of paper 7's, four of paper 9's and eight of splitting (paper 10), proved from
--- the definitions by one joint statement about one table.
+-- by each road, one for each of paper 6's two rules, two of paper 7's, four of paper 9's, eight of splitting (paper 10) and thirteen of legs
+-- (paper 11, two of them a none of a record that did not come from the start, and the clear from there), proved from the definitions by one joint statement about one table.
 use mathlib.Core.Path.{_≡_, refl}
 use mathlib.Core.Bool.{true, false}
 use mathlib.Core.List.{List, [], _∷_, _++_, map}
-use Prim.Native.Nat.{ℕ, _^_}
+use Prim.Native.Nat.{ℕ, _-_, _^_}
 use lib.ListN.{take, replicate}
 use Rattle.words.specs.Lists.{some, every, keep, count, first, span}
 use Rattle.words.specs.Bits.{bit, toggle, distance, wordAt}
@@ -20,13 +20,18 @@ use Rattle.code.specs.Operations as Operations
 use Rattle.code.specs.Operations.{codeAnswer, codeTable, volumeAnswer, floorAnswer}
 use Rattle.tree.specs.Explore as Explore
 use Rattle.tree.specs.Budget as Budget
+use Rattle.tree.specs.Legs as Balls
 use Rattle.search.specs.Ball as Ball
 use Rattle.search.specs.Run as Search
 use Rattle.horn.specs.Horn as Horn
 use Rattle.splitting.specs.Splitting as Splitting
 use Rattle.engine.specs.declared.Reply.{Reply}
+use Rattle.engine.specs.declared.legs.Checkpoint.{Checkpoint}
+use Rattle.engine.specs.declared.legs.LegEnd.{LegEnd}
 use Rattle.engine.specs.Answers as Answers
-use Rattle.engine.specs.Answers.{replyTo, splitTo, CLEAR, NONE, SPENT, NO-ROAD, HORN, BALLS}
+use Rattle.engine.specs.Answers.{replyTo, splitTo, REFUSED, CLEAR, NONE, SPENT, NO-ROAD, HORN, BALLS}
+use Rattle.engine.specs.Legs as Legs
+use Rattle.engine.specs.Legs.{legTo}
 
 -- a positive and a negative literal
 abbrev pos : ℕ → Literal
@@ -35,11 +40,12 @@ pos v = record { variable = v; positive = true }
 abbrev neg : ℕ → Literal
 neg v = record { variable = v; positive = false }
 
--- What is asked of the library: a run, by its plan, budget and sheet; splitting, by its budget and sheet; a code, a volume or a floor, by
--- length and radius.
+-- What is asked of the library: a run, by its plan, budget and sheet; splitting, by its budget and sheet; a leg, by its plan, budget, sheet
+-- and record; a code, a volume or a floor, by length and radius.
 pub data Question : Type 0 where
   run-of : (size radius budget : ℕ) → Formula → Question
   split-of : (budget : ℕ) → Formula → Question
+  leg-of : (size radius budget : ℕ) → Formula → Checkpoint → Question
   code-of : (t s : ℕ) → Question
   volume-of : (t s : ℕ) → Question
   floor-of : (t s : ℕ) → Question
@@ -48,6 +54,12 @@ pub data Question : Type 0 where
 numbers : Reply → List ℕ
 numbers r =
     r .verdict ∷ r .batch ∷ r .road ∷ r .marks0 ∷ r .marks1 ∷ r .marks2 ∷ r .marks3 ∷ r .calls ∷ r .number ∷ r .place ∷ []
+
+-- of a leg those of its reply, the sheet that a refusal is about, and the next ball in the record
+legNumbers : LegEnd → List ℕ
+legNumbers e =
+    let r = e .reply in
+    r .verdict ∷ r .batch ∷ r .road ∷ r .marks0 ∷ r .marks1 ∷ r .marks2 ∷ r .marks3 ∷ r .calls ∷ r .number ∷ r .place ∷ r .sheet ∷ e .checkpoint .next ∷ []
 
 answerNumbers : Answer → List ℕ
 answerNumbers (Number n) = n ∷ []
@@ -62,6 +74,7 @@ wordsIn (Refused r) table = []
 pub ask : Question → List ℕ
 ask (run-of size radius budget f) = numbers (replyTo (Search.plan size radius) budget (encode f))
 ask (split-of budget f) = numbers (splitTo budget (encode f))
+ask (leg-of size radius budget f r) = legNumbers (legTo (Search.plan size radius) budget (encode f) r)
 ask (code-of t s) = let table : List ℕ = replicate (2 ^ t) 0 in wordsIn (codeAnswer t s table) (codeTable t s table)
 ask (volume-of t s) = answerNumbers (volumeAnswer t s)
 ask (floor-of t s) = answerNumbers (floorAnswer t s)
@@ -96,6 +109,13 @@ the-none road calls = NONE ∷ 0 ∷ road ∷ no-marks ++ (calls ∷ 0 ∷ 0 ∷
 
 abbrev the-spent : ℕ → ℕ → List ℕ
 the-spent road calls = SPENT ∷ 0 ∷ road ∷ no-marks ++ (calls ∷ 0 ∷ 0 ∷ [])
+
+-- a record of batch b, with its next ball; what a leg that is refused leaves
+abbrev at : (b n size radius next : ℕ) → Checkpoint
+at b n size radius next = record { batch = b; n = n; size = size; radius = radius; next = next }
+
+abbrev no-leg : ℕ → ℕ → List ℕ
+no-leg number next = REFUSED ∷ 0 ∷ 0 ∷ no-marks ++ (0 ∷ number ∷ 0 ∷ 1 ∷ next ∷ [])
 
 pub record Row : Type 0 where
   pub question : Question
@@ -142,6 +162,19 @@ examples =
     ∷ row (split-of 7 all-four) (the-none NO-ROAD 7)
     ∷ row (split-of 3 (sheet 2 ((neg 2 ∷ []) ∷ []))) (the-clear NO-ROAD no-marks 3)
     ∷ row (split-of 35 (sheet 33 ((pos 33 ∷ []) ∷ []))) (the-clear NO-ROAD (0 ∷ 1 ∷ 0 ∷ 0 ∷ []) 35)
+    ∷ row (leg-of 2 1 5 all-four (at 0 2 2 1 0)) (the-spent BALLS 3 ++ (0 ∷ 1 ∷ []))
+    ∷ row (leg-of 2 1 3 all-four (at 0 2 2 1 1)) (the-none BALLS 3 ++ (0 ∷ 2 ∷ []))
+    ∷ row (leg-of 2 1 2 all-four (at 0 2 2 1 1)) (the-spent BALLS 0 ++ (0 ∷ 1 ∷ []))
+    ∷ row (leg-of 2 1 0 all-four (at 0 2 2 1 0)) (the-spent BALLS 0 ++ (0 ∷ 0 ∷ []))
+    ∷ row (leg-of 2 2 3 all-four (at 0 2 2 2 0)) (the-none BALLS 3 ++ (0 ∷ 1 ∷ []))
+    ∷ row (leg-of 3 1 9 sample (at 0 3 3 1 0)) (the-clear BALLS (1 ∷ 0 ∷ 0 ∷ 0 ∷ []) 2 ++ (0 ∷ 2 ∷ []))
+    ∷ row (leg-of 2 0 9 (sheet 2 ((pos 1 ∷ pos 2 ∷ []) ∷ (neg 2 ∷ []) ∷ [])) (at 0 2 2 0 2)) (the-none BALLS 2 ++ (0 ∷ 4 ∷ []))
+    ∷ row (leg-of 2 0 9 (sheet 2 ((pos 1 ∷ pos 2 ∷ []) ∷ (neg 2 ∷ []) ∷ [])) (at 0 2 2 0 0)) (the-clear BALLS (1 ∷ 0 ∷ 0 ∷ 0 ∷ []) 2 ++ (0 ∷ 4 ∷ []))
+    ∷ row (leg-of 2 1 9 all-four (at 0 2 2 1 2)) (no-leg 12 2)
+    ∷ row (leg-of 2 1 9 all-four (at 5 2 2 1 2)) (no-leg 11 2)
+    ∷ row (leg-of 1 1 1 opposites (at 5 2 2 1 2)) (the-spent HORN 1 ++ (0 ∷ 2 ∷ []))
+    ∷ row (leg-of 1 0 9 (sheet 63 ((pos 1 ∷ pos 2 ∷ []) ∷ [])) (at 5 2 2 1 2)) (no-leg 8 2)
+    ∷ row (leg-of 1 0 9 (sheet 62 ((pos 1 ∷ pos 2 ∷ []) ∷ [])) (at 0 62 1 0 (2 ^ 62 - 1))) (the-clear BALLS ((2 ^ 32 - 1) ∷ (2 ^ 30 - 1) ∷ 0 ∷ 0 ∷ []) 1 ++ (0 ∷ 2 ^ 62 ∷ []))
     ∷ row (code-of 2 1) (0 ∷ 1 ∷ [])
     ∷ row (code-of 3 1) (0 ∷ 7 ∷ [])
     ∷ row (code-of 4 1) (0 ∷ 7 ∷ 8 ∷ 15 ∷ [])
@@ -152,7 +185,7 @@ examples =
 
 -- Each answer is the one that the definitions give.
 pub examples-hold : map (λ r. ask (r .question)) examples ≡ map (λ r. r .answer) examples
-unfolding examples ask numbers answerNumbers wordsIn
+unfolding examples ask numbers legNumbers answerNumbers wordsIn
     some every keep count first span bit toggle distance wordAt
     Formula.bitOf Formula.met Formula.isOpposite Formula.someMet Formula.allTrue Formula.names Formula.literalWord Formula.literalOf
     Sheet.wordOf Sheet.words Sheet.kind Sheet.value Sheet._>>=_ Sheet._>>_ Sheet.refuse-when
@@ -167,12 +200,13 @@ unfolding examples ask numbers answerNumbers wordsIn
     Ball.restricted Ball.meetsS Ball.flippedMet Ball.isLone Ball.hasLoneOpposite Ball.meetsL
     Ball.flip Ball.isTried Ball.tried Ball.branch Ball.select Ball.skip Ball.rule Ball.ballTree Ball.ballSearch
     Search.blockOf Search.shortBlock Search.blocks Search.summedRadius Search.centreCount Search.centreAt
-    Search.searchOf Search.ball Search.run
+    Search.searchOf Search.ball Search.run Search.legOf Balls.turn Balls.legOver Balls.leg
     Horn.positives Horn.isHorn Horn.firstFalse Horn.hornTree Horn.rounds
     Splitting.isSet Splitting.isLost Splitting.isSure Splitting.setNext Splitting.splitTree Splitting.split
     Budget.whole Budget.answer
     Answers.methodOf Answers.outcome Answers.refusal Answers.judged Answers.decided Answers.decision
     Answers.splitJudged Answers.splitDecision
     Answers.methodNumber Answers.numbersOf Answers.replyOf replyTo splitTo
+    Legs.belongs Legs.ballsLeg Legs.legOn Legs.legBy Legs.about Legs.legEnd legTo
     lib.Count.ones lib.Count.onesIn
 examples-hold = refl

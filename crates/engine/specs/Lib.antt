@@ -1,10 +1,12 @@
 -- The definitions and laws of the crate engine.
 pub mod Answers
+pub mod Legs
 pub mod Replies
 pub mod Right
 pub mod Demands
 pub mod HornAnswers
 pub mod SplitAnswers
+pub mod LegAnswers
 pub mod AlikeAnswers
 pub mod CountsAnswers
 pub mod TallyAnswers
@@ -12,3 +14,4 @@ pub mod Examples
 pub mod Machine
 pub mod MachineLaws
 pub mod DemandLaws
+pub mod LegLaws

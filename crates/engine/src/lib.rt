@@ -1,5 +1,7 @@
-// The engine: a sheet decided by a plan within a budget, or by splitting, for Rattle and for C.
+// The engine: a sheet decided by a plan within a budget, in legs, or by splitting, for Rattle and
+// for C.
 mod exports;
+mod legs;
 
 pub use exports::AlikeReply;
 pub use exports::CountsReply;
@@ -14,6 +16,11 @@ pub use exports::tally_begin;
 pub use exports::tally_holds;
 pub use exports::tally_toggle;
 use formula::Reading;
+pub use legs::Checkpoint;
+pub use legs::LegEnd;
+pub use legs::LegReply;
+pub use legs::leg;
+pub use legs::leg_by_value;
 use tree::Found;
 use words::Assignment;
 use words::Refusal;

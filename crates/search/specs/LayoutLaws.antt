@@ -4,11 +4,11 @@ use mathlib.Core.Path.{_≡_, refl, sym, ap, _∙_, subst, ap₂}
 use mathlib.Core.Bool.{Bool, true, false, cond}
 use mathlib.Core.List.{List, [], _∷_, _++_}
 use Prim.Native.Nat.{ℕ, zero, suc, _+_, _-_, _*_, _/_, _%_, _^_, _≤_, _<_, min}
-use native.Mathlib.Nat.{add-mul, mul-assoc, add-assoc, div-div-eq-div-mul, mod-lt, mul-comm, add-comm, suc-mul, mul-le-mul-right, zero-mul, zero-add, div-one, sub-zero, mul-one, add-zero, mul-pos, pos-of-ne-zero, div-add-mod', mul-le-mul-left}
+use native.Mathlib.Nat.{add-mul, mul-assoc, add-assoc, div-div-eq-div-mul, mod-lt, mul-comm, add-comm, suc-mul, mul-le-mul-right, zero-mul, zero-add, div-one, sub-zero, mul-one, add-zero, mul-pos, pos-of-ne-zero, div-add-mod', mul-le-mul-left, one-mul, mul-zero, pow-zero, pow-suc, le-mul-of-pos-right}
 use native.Mathlib.Numerals.{add-one}
 use native.Mathlib.Omega.{arith}
-use borrow.Author.Tests.{eq-eqb, ne-eqb, eqb-false, eqb-true}
-use lib.Dec.{eqb}
+use borrow.Author.Tests.{eq-eqb, ne-eqb, eqb-false, eqb-true, leb-true, leb-false}
+use lib.Dec.{eqb, leb}
 use lib.ListN.{length, getD, take, replicate, drop, length-append}
 use lib.Seq.{getD-take, length-take-le, take-append-seam}
 use lib.Pow.{pow-add}
@@ -22,7 +22,7 @@ use Rattle.code.specs.CodeLaws.{code-covers, code-within}
 use Rattle.code.specs.Operations.{written}
 use Rattle.code.specs.Machine.{Filled}
 use Rattle.search.specs.CentreLaws.{Covered, words-some, getD-within}
-use Rattle.search.specs.Machine.{blockIn, lastIn, blocksIn, Coded, Laid, Joined, Towards, Midway, Words, BlockCode, LaidOut}
+use Rattle.search.specs.Machine.{blockIn, lastIn, blocksIn, Coded, Laid, Joined, Towards, Midway, Words, BlockCode, LaidOut, centresIn, mostCentres}
 
 -- ---- a centre
 
@@ -241,3 +241,55 @@ reach-is l whole last = sym (go (l .whole) _ _ ∙ ap (λ (x : ℕ). l .whole * 
         summedRadius (cond e [] (lastBlock l last ∷ [])) ≡ min (l .radius) (l .last)
     last-radius true q = let z : l .last ≡ 0 = eqb-true (l .last) 0 q in omega arith
     last-radius false q = add-zero _
+
+-- ---- the number of the centres
+
+-- M is the product of the numbers of the codes' words.
+pub extent-is : (l : Layout) (whole last : List ℕ) → Laid l whole last → centreCount (blocksIn l whole last) ≡ centresIn l
+unfolding blocksIn lastIn blockIn centreCount centresIn
+extent-is l whole last laid =
+    wholes (l .whole) (λ z. words (laid .wholes z)) _ ∙ ap (λ (x : ℕ). l .count ^ l .whole * x) (lasts (eqb (l .last) 0) refl)
+  where
+    words : {size count : ℕ} {cells : List ℕ} → Coded size count cells → length (take count cells) ≡ count
+    words {count = count} {cells} c = length-take-le count cells (c .held)
+
+    wholes : (k : ℕ) → (0 < k → length (take (l .count) whole) ≡ l .count) → (bs : List Block) →
+        centreCount (replicate k (blockIn (l .size) (l .radius) (l .count) whole) ++ bs) ≡ l .count ^ k * centreCount bs
+    wholes zero h bs = rw pow-zero (sym (one-mul (centreCount bs)))
+    wholes (suc k) h bs =
+        let rest : ℕ = l .count ^ k * centreCount bs in
+        rw (h (omega arith), wholes k (λ z. h (omega arith)) bs, pow-suc) (sym (mul-assoc (l .count) _ _) ∙ ap (λ (x : ℕ). x * centreCount bs) (mul-comm (l .count) _))
+
+    lasts : (e : Bool) → eqb (l .last) 0 ≡ e →
+        centreCount (cond e [] (lastBlock l last ∷ [])) ≡ cond e 1 (l .«last_count»)
+    lasts true e = refl
+    lasts false e = mul-one _ ∙ words (laid .lasts (pos-of-ne-zero (eqb-false (l .last) 0 e)))
+
+-- one factor more, where all is cut at L
+pub min-product : (L x b : ℕ) → min (min x L * b) L ≡ min (x * b) L
+min-product L x b = go b (leb x L) refl
+  where
+    go : (b : ℕ) (t : Bool) → leb x L ≡ t → min (min x L * b) L ≡ min (x * b) L
+    go b true h = let l = leb-true x L h in let e : min x L ≡ x = omega arith in rw e
+    go zero false h = rw (mul-zero, mul-zero)
+    go (suc b) false h =
+        let l = leb-false x L h in
+        let e : min x L ≡ L = omega arith in
+        let low : L ≤ L * suc b = le-mul-of-pos-right L (omega arith) in
+        let high : x ≤ x * suc b = le-mul-of-pos-right x (omega arith) in
+        rw e (omega arith)
+
+-- The centres of j blocks, cut at the most; with one block more; and with the last block, if there is one.
+module _ (l : Layout) (made r : ℕ) where
+  pub centres-more : (j : ℕ) → made ≡ min (l .count ^ j) mostCentres → r ≡ min (made * l .count) mostCentres →
+      r ≡ min (l .count ^ (j + 1)) mostCentres
+  centres-more j e f = f ∙ rw (e, min-product mostCentres, add-one, pow-suc (l .count) j)
+
+  pub centres-none : l .last ≡ 0 → made ≡ min (l .count ^ l .whole) mostCentres → made ≡ min (centresIn l) mostCentres
+  unfolding centresIn
+  centres-none z e = e ∙ rw (eq-eqb (l .last) 0 z, mul-one)
+
+  pub centres-one : (l .last ≡ 0 → ⊥) → made ≡ min (l .count ^ l .whole) mostCentres → r ≡ min (made * l .«last_count») mostCentres →
+      r ≡ min (centresIn l) mostCentres
+  unfolding centresIn
+  centres-one z e f = f ∙ rw (e, min-product mostCentres, ne-eqb (l .last) 0 z)

@@ -8,6 +8,7 @@ pub mod RuleLaws
 pub mod CentreLaws
 pub mod ReachLaws
 pub mod RunLaws
+pub mod LegLaws
 pub mod CallLaws
 pub mod CountLaws
 pub mod FlipLaws

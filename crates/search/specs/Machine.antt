@@ -267,6 +267,14 @@ pub record LaidOut (n size radius : ℕ) (l : Layout) (whole last : List ℕ) : 
 abbrev pub extent : Layout → List ℕ → List ℕ → ℕ
 extent l whole last = centreCount (blocksIn l whole last)
 
+-- the same by the numbers of their words
+unfoldable pub centresIn : Layout → ℕ
+centresIn l = l .count ^ l .whole * cond (eqb (l .last) 0) 1 (l .«last_count»)
+
+-- so many centres or more are not searched in legs
+abbrev pub mostCentres : ℕ
+mostCentres = 2 ^ 63
+
 -- ---- the balls
 
 -- the planes of the centre m become those of m′

@@ -1,11 +1,13 @@
 -- The run over all balls (paper 01, "The block code"; source 000, sections 2.3 and 2.4), and its bound.
-use mathlib.Core.Bool.{cond}
+use mathlib.Core.Path.{_≡_}
+use mathlib.Core.Bool.{false, cond}
 use mathlib.Core.List.{List, [], _∷_, _++_}
-use Prim.Native.Nat.{ℕ, _+_, _*_, _/_, _%_, _^_, min, max}
+use Prim.Native.Nat.{ℕ, _+_, _*_, _/_, _%_, _^_, _≤_, _<_, min, max}
 use lib.Dec.{eqb}
 use lib.ListN.{length, getD, replicate}
 use Rattle.words.specs.Lists.{span}
-use Rattle.formula.specs.Formula.{Clause, Formula}
+use Rattle.words.specs.Bits.{distance}
+use Rattle.formula.specs.Formula.{Clause, Formula, allTrue}
 use Rattle.tree.specs.Explore.{Outcome, try}
 use Rattle.tree.specs.Legs.{Progress, leg}
 use Rattle.search.specs.Ball.{Rule, rule, ballSearch}
@@ -81,6 +83,12 @@ run q = try (ball q) (span 0 (centreCount (q .blocks)))
 -- The leg from ball i on, within the budget A: whole balls, as many as it can finish (02, paper 11).
 unfoldable pub legOf : Search → (A i : ℕ) → Progress
 legOf q A i = leg (ball q) A (centreCount (q .blocks)) i
+
+-- No assignment of n variables within R of the centres from i up to j meets every clause: what those balls were searched for.
+unfoldable pub Emptied : Code → Plan → Formula → (i j : ℕ) → Type 0
+Emptied code p f i j =
+    (x w : ℕ) → i ≤ x → x < j → w < 2 ^ f .n → distance (centreAt (blocks code p (f .n)) x) w ≤ summedRadius (blocks code p (f .n)) →
+    allTrue w (f .clauses) ≡ false
 
 -- ---- the bounds on its calls
 

@@ -55,7 +55,7 @@ module _ (n : ℕ) (q : Search) (fit : Fit n q) where
 -- ---- the same for a formula, a plan and any covering code
 
 module _ (code : Code) (covering : Covering code) (p : Plan) (f : Formula) (formed : WellFormed f) where
-  fit : Fit (f .n) (searchOf code p f)
+  pub fit : Fit (f .n) (searchOf code p f)
   unfolding searchOf
   fit =
       record {

@@ -1,11 +1,14 @@
 // The blocks of a plan and their codes, made once for a run.
 use crate::centre::Layout;
 ghost use mathlib.Core.Path.{_≡_};
-ghost use Prim.Native.Nat.{_≤_};
+ghost use Prim.Native.Nat.{_*_, _≤_, min};
 ghost use lib.ListN.{length};
 ghost use Rattle.words.specs.Bits.{width};
 ghost use Rattle.code.specs.Machine.{codeCells};
-ghost use Rattle.search.specs.Machine.{BlockCode, LaidOut};
+ghost use Rattle.search.specs.Machine.{BlockCode, LaidOut, mostCentres, centresIn};
+
+// A search with so many centres or more is not carried out in legs.
+pub const CENTRES: u64 = 9223372036854775808;
 
 // An empty table with room for any code.
 pub fn cells() -> [u16; code::CELLS]
@@ -49,4 +52,35 @@ pub fn lay_out(
         last: rest,
         last_count,
     }
+}
+
+// The product of two numbers, or the most centres where that is less.
+fn product(a: u64, b: u64) -> u64
+    ensures { λ r. ⌜ r ≡ min (a * b) mostCentres ⌝ }
+{
+    if b == 0 {
+        return 0;
+    }
+    if CENTRES / b < a {
+        return CENTRES;
+    }
+    a * b
+}
+
+// How many centres there are, M, or the most where there are more.
+pub fn centres(layout: Layout) -> u64
+    ensures { λ r. ⌜ r ≡ min (centresIn layout) mostCentres ⌝ }
+{
+    let blocks = layout.whole;
+    let count = layout.count;
+    let mut made = 1;
+    let mut j = 0;
+    while j < blocks {
+        made = product(made, count);
+        j += 1;
+    }
+    if layout.last == 0 {
+        return made;
+    }
+    product(made, layout.last_count)
 }

@@ -10,7 +10,9 @@ mod reading;
 
 pub use balls::Progress;
 pub use centre::Layout;
+pub use layout::CENTRES;
 pub use layout::cells as code_cells;
+pub use layout::centres;
 pub use layout::lay_out;
 pub use reading::Reading;
 pub use reading::clause_reading;

@@ -2,10 +2,12 @@
 // sheets Horn or nearly so, every plan, and budgets below, at and above the calls needed; and each
 // sheet by splitting too. Each answer is compared with a trial of all assignments that shares
 // nothing with the search: also the least model of a Horn sheet, and the first that splitting finds.
+// Half of the sheets are decided in legs too, which are compared with a run.
 // It prints every run that disagrees, and counts.
 // The counts record how many sheets of each kind the fixed generator makes; that no run disagrees
 // is what is tested.
 mod brute;
+mod legs;
 mod sheets;
 
 use brute::NO_MODEL;
@@ -14,6 +16,7 @@ use brute::in_all_models;
 use brute::is_horn;
 use brute::meets;
 use engine::Reply;
+use legs::try_legs;
 use libc::STDOUT_FILENO;
 use sheets::Random;
 use sheets::Shape;
@@ -45,7 +48,8 @@ struct Case {
 }
 
 // How many sheets agreed, by road and verdict (Horn sheets are never spent here, and splitting never
-// is); how many runs with another budget agreed; and how many runs did not.
+// is); how many runs with another budget agreed; and how many runs did not. Then of the sheets in
+// legs: how many Horn sheets agreed, how many searches, the legs of these, and how many did not.
 struct Counts {
     split_clear: u64,
     split_none: u64,
@@ -56,6 +60,10 @@ struct Counts {
     spent: u64,
     budgets: u64,
     disagreements: u64,
+    horn_legs: u64,
+    searches: u64,
+    legs: u64,
+    leg_disagreements: u64,
 }
 
 struct Trial {
@@ -80,6 +88,10 @@ impl Counts {
             spent: 0,
             budgets: 0,
             disagreements: 0,
+            horn_legs: 0,
+            searches: 0,
+            legs: 0,
+            leg_disagreements: 0,
         }
     }
 
@@ -131,6 +143,22 @@ impl Counts {
         self.disagreements = more(self.disagreements);
         self
     }
+
+    fn with_horn_leg(mut self) -> Counts {
+        self.horn_legs = more(self.horn_legs);
+        self
+    }
+
+    fn with_search(mut self, legs: u64) -> Counts {
+        self.searches = more(self.searches);
+        self.legs = std::num::wrapping_add_u64(self.legs, legs);
+        self
+    }
+
+    fn with_leg_disagreement(mut self) -> Counts {
+        self.leg_disagreements = more(self.leg_disagreements);
+        self
+    }
 }
 
 fn print_number(name: &[u8], n: u64) {
@@ -148,6 +176,10 @@ fn print_counts(counts: Counts) {
     print_number(b"\nsplit none ", counts.split_none);
     print_number(b"\nbudgets ", counts.budgets);
     print_number(b"\ndisagreements ", counts.disagreements);
+    print_number(b"\nlegs: horn ", counts.horn_legs);
+    print_number(b" searches ", counts.searches);
+    print_number(b" legs ", counts.legs);
+    print_number(b" disagreements ", counts.leg_disagreements);
     io::write_all(STDOUT_FILENO, b"\n");
 }
 
@@ -310,7 +342,18 @@ fn run_case(sheet: &[u8], table: &[u32], case: Case, counts: Counts) -> Counts
     run_around(sheet, case, reply, seen)
 }
 
-// A sheet that ends at a byte, with the plan whose turn it is, and then by splitting.
+// The sheet of a case with its plan, in one run and in legs, and then by splitting.
+fn try_case(sheet: &[u8], table: &[u32], mut case: Case, random: Random, counts: Counts) -> Counts
+    requires { ⌜ (case .n ≤ 12) × (2 * case .clauses ≤ length (now table)) ⌝ }
+{
+    let in_one = run_case(sheet, table, case, counts);
+    let in_legs = try_legs(sheet, case, random, in_one);
+    case.split = true;
+    run_case(sheet, table, case, in_legs)
+}
+
+// A sheet that ends at a byte, with the plan whose turn it is. The budgets of its legs are drawn
+// from where its clauses were, so that they change no sheet.
 fn try_drawn(
     sheet: &[u8],
     end: usize,
@@ -326,7 +369,8 @@ fn try_drawn(
     let n = shape.n;
     let clauses = shape.clauses as usize;
     let size = 1 + number / 4 % 12;
-    let mut case = Case {
+    let random = shape.random;
+    let case = Case {
         number,
         split: false,
         size,
@@ -338,9 +382,7 @@ fn try_drawn(
         horn: is_horn(table, clauses),
         least: in_all_models(n, table, clauses),
     };
-    let by_plan = run_case(&sheet[0..end], table, case, counts);
-    case.split = true;
-    run_case(&sheet[0..end], table, case, by_plan)
+    try_case(&sheet[0..end], table, case, random, counts)
 }
 
 // The next sheet.

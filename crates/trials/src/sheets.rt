@@ -14,7 +14,7 @@ pub struct Random {
 }
 
 impl Random {
-    fn next(self) -> Random {
+    pub fn next(self) -> Random {
         let a = self.state;
         let b = a ^ (a << 13);
         let c = b ^ (b >> 7);
@@ -29,7 +29,7 @@ impl Random {
     }
 
     // A number below n.
-    fn below(self, n: u32) -> u32
+    pub fn below(self, n: u32) -> u32
         requires { ⌜ 0 < n ⌝ }
         ensures { λ r. ⌜ r < n ⌝ }
     {
