@@ -43,7 +43,7 @@ build() {
         check clearing
         return
     fi
-    echo "proving the program's crates; the first time this takes two or three minutes" >&2
+    echo "proving the program's crates; the first time this takes three to five minutes" >&2
     total=$(echo "$crates" | wc -l) at=0
     for crate in $crates; do
         at=$((at + 1))

@@ -146,6 +146,54 @@ static void make_near(uint32_t n, uint32_t count, uint32_t c, uint32_t reach)
     }
 }
 
+/* The old sheet of a leg that brings two. The longer one is in bytes. */
+static uint8_t old[36876];
+static size_t old_length;
+
+/* The old sheet is the first clauses of the longer one, each of c literals. */
+static void old_as_first(uint32_t count, uint32_t c)
+{
+    old_length = 12 + 4 * (1 + c) * count;
+    memcpy(old, bytes, old_length);
+}
+
+/* The longer sheet's clauses, each of c literals, from last to first, and their literals in any order. */
+static void turn_round(uint32_t c)
+{
+    static uint8_t kept[36876];
+    size_t size = 4 * (1 + c);
+    memcpy(kept, bytes, length);
+    for (size_t at = 12; at < length; at += size) {
+        uint8_t *clause = bytes + at;
+        memcpy(clause, kept + length + 12 - at - size, size);
+        for (uint32_t j = c; j > 1; j--) {
+            uint32_t last, other, k = 1 + below(j);
+            memcpy(&last, clause + 4 * j, 4), memcpy(&other, clause + 4 * k, 4);
+            memcpy(clause + 4 * j, &other, 4), memcpy(clause + 4 * k, &last, 4);
+        }
+    }
+}
+
+/* Ten variables and 1,024 clauses. Each of the old sheet's is (1 .. c), which the longer sheet has last. Its other clauses have 7 to 1 and then another
+   literal, so that a comparison literal by literal ends late, and, with c 7, only when it goes the other way. With lacking the last clause of the
+   old sheet is (-1 .. -c), which the longer one has not. */
+static void make_found_last(uint32_t c, int lacking)
+{
+    begin(10);
+    for (uint32_t i = 0; i < 1024; i++) {
+        put(1u << 30 | c);
+        for (uint32_t v = 1; v <= c; v++) put(2 * v + (lacking && i == 1023));
+    }
+    old_as_first(1024, c);
+    begin(10);
+    for (uint32_t i = 0; i < 1024; i++) {
+        put(1u << 30 | (i < 1023 ? 8 : c));
+        for (uint32_t v = 7; v >= 1; v--) put(2 * v);
+        if (i < 1023) put(17 + i % 5);
+        else if (c == 8) put(16);
+    }
+}
+
 static void fail(const char *why)
 {
     fflush(stdout);
@@ -309,6 +357,120 @@ static int leg_ready(const struct plain *plain, const char *what, uint32_t b, ui
     printf("%-44s %8.1f us  plain %8.1f us  ratio %5.2f  vectors %8.1f us  ratio %5.2f%s\n", what, best[LIBRARY] * 1e6, best[WORDED] * 1e6,
            best[LIBRARY] / best[WORDED], best[FASTEST] * 1e6, best[LIBRARY] / best[FASTEST], ok ? "" : "  DIFFERENT ANSWERS");
     return ok;
+}
+
+/* One leg that brings an old sheet and a longer one, by the library or by plain C, and the record moved on. */
+static struct leg_reply one_longer(int who, const struct plain *plain, uint32_t budget, const uint8_t *first, size_t first_length,
+                                   size_t longer_length, struct checkpoint *record)
+{
+    struct plain_record theirs = { record->batch, record->n, record->block_length, record->radius, record->next };
+    struct plain_answer answer;
+    struct leg_reply reply = { .verdict = ENGINE_REFUSED };
+    if (who == LIBRARY) return leg_longer(theirs.b, theirs.s, budget, first, first_length, bytes, longer_length, record);
+    int verdict = plain->longer(theirs.b, theirs.s, budget, first, first_length, bytes, longer_length, who == FASTEST, &theirs, &answer);
+    record->next = theirs.next;
+    if (verdict < 0) {
+        reply.number = -verdict, reply.place = answer.place, reply.sheet = answer.sheet;
+        return reply;
+    }
+    struct reply decided = reply_of(verdict, answer.horn ? ENGINE_HORN : ENGINE_BALLS, &answer);
+    memcpy(&reply, &decided, sizeof decided);
+    return reply;
+}
+
+/* The place of the first clause of the old sheet that is lacking, or 0 where the leg is spent; 1 for anything else. */
+static uint32_t lacking_at(const struct leg_reply *reply)
+{
+    if (reply->verdict == ENGINE_SPENT && reply->road == ENGINE_BALLS && reply->calls == 0 && reply->number == 0 && reply->sheet == 0) return 0;
+    return reply->verdict == ENGINE_REFUSED && reply->number == 13 && reply->sheet == 1 ? reply->place : 1;
+}
+
+/* A leg without a call that brings the old sheet too, beside one that brings the longer sheet alone, by all three in turn; the least of nine means
+   of 10. They must find the same clause lacking, or none. */
+static int longer_ready(const struct plain *plain, const char *what, uint32_t b, uint32_t s, uint32_t place)
+{
+    struct checkpoint record = { 1, bytes[8], b, s, 0 };
+    double both[] = { 1e9, 1e9, 1e9 }, alone[] = { 1e9, 1e9, 1e9 };
+    int ok = 1;
+    for (int i = 0; i < 27; i++) {
+        int who = i % 3;
+        double at = seconds();
+        for (int j = 0; j < 10; j++) ok &= one_leg(who, plain, 0, &record).verdict == ENGINE_SPENT;
+        double mid = seconds();
+        for (int j = 0; j < 10; j++) {
+            struct leg_reply reply = one_longer(who, plain, 0, old, old_length, length, &record);
+            ok &= lacking_at(&reply) == place && record.next == 0;
+        }
+        double end = seconds();
+        if (mid - at < alone[who] * 10) alone[who] = (mid - at) / 10;
+        if (end - mid < both[who] * 10) both[who] = (end - mid) / 10;
+    }
+    printf("%-44s %8.1f us (leg %6.1f)  ratio %5.2f  plain %8.1f us (%6.1f)  ratio %6.2f  hashes %8.1f us (%6.1f)  ratio %6.2f%s\n", what,
+           both[LIBRARY] * 1e6, alone[LIBRARY] * 1e6, both[LIBRARY] / alone[LIBRARY], both[WORDED] * 1e6, alone[WORDED] * 1e6,
+           both[LIBRARY] / both[WORDED], both[FASTEST] * 1e6, alone[FASTEST] * 1e6, both[LIBRARY] / both[FASTEST],
+           ok ? "" : "  DIFFERENT ANSWERS");
+    return ok;
+}
+
+/* The clauses in bytes, each of c literals, arrive while their search is parked: the first leg has some of them, and each leg after it so many more,
+   until all are there. The old sheet of a leg is what was searched last; without further clauses there is none. */
+struct arrival {
+    uint32_t c, first, more;
+};
+
+static struct walk while_arriving(int who, const struct plain *plain, uint32_t b, uint32_t s, uint32_t budget, const struct arrival *arrival)
+{
+    struct checkpoint record = { 1, bytes[8], b, s, 0 };
+    struct walk walk = { .legs = 0 };
+    uint32_t calls = 0;
+    size_t whole = length, step = 4 * (1 + arrival->c), had = 0;
+    double at = seconds();
+    length = 12 + step * arrival->first;
+    do {
+        uint64_t from = record.next;
+        if (had == 0 || had == length) walk.reply = one_leg(who, plain, budget, &record);
+        else {
+            struct leg_reply reply = one_longer(who, plain, budget, bytes, had, length, &record);
+            memcpy(&walk.reply, &reply, sizeof walk.reply);
+        }
+        walk.legs++;
+        walk.checksum = (walk.checksum * 31 + walk.reply.calls) * 31 + record.next;
+        calls += walk.reply.calls;
+        if (record.next == from) fail("a leg gets past no ball");
+        if (walk.reply.verdict != ENGINE_SPENT && length < whole) fail("the search ends before all clauses are there");
+        had = length;
+        length = whole - length < step * arrival->more ? whole : length + step * arrival->more;
+    } while (walk.reply.verdict == ENGINE_SPENT);
+    walk.took = seconds() - at;
+    walk.reply.calls = calls;
+    length = whole;
+    return walk;
+}
+
+/* A search in legs of a budget while clauses arrive, by the library and by plain C, beside one run of the library on all clauses: the least of six,
+   and of three by vectors. Verdict and marks must be the run's, and plain C's legs the same one by one. Plain C as worded goes through them once. */
+static int arriving(const struct plain *plain, const char *what, uint32_t b, uint32_t s, uint32_t budget, struct arrival arrival)
+{
+    double whole = 1e9, best[] = { 1e9, 1e9, 1e9 };
+    struct reply reply;
+    struct walk walks[3];
+    for (int i = 0; i < 10; i++) {
+        int who = i == 9 ? WORDED : i % 3 == 2 ? FASTEST : LIBRARY;
+        double took = who == LIBRARY ? timed(LIBRARY, plain, b, s, 4294967295u, &reply) : whole;
+        if (took < whole) whole = took;
+        walks[who] = while_arriving(who, plain, b, s, budget, &arrival);
+        if (walks[who].took < best[who]) best[who] = walks[who].took;
+        uint32_t calls = walks[who].reply.calls;
+        walks[who].reply.calls = reply.calls;
+        if (!agree(&walks[who].reply, &reply)) fail("legs while clauses arrive do not come to what one run does");
+        walks[who].reply.calls = calls;
+    }
+    int same = walks[LIBRARY].checksum == walks[FASTEST].checksum && walks[LIBRARY].checksum == walks[WORDED].checksum;
+    printf("%-44s %-6s %3u legs of %6u  %8u calls  %7.3f s  run %8u calls  %7.3f s  ratio %5.2f  plain %7.3f s  ratio %6.3f"
+           "  vectors %7.3f s  ratio %5.2f%s\n", what, verdicts[reply.verdict], walks[LIBRARY].legs, budget, walks[LIBRARY].reply.calls, best[LIBRARY],
+           reply.calls, whole, best[LIBRARY] / whole, best[WORDED], best[LIBRARY] / best[WORDED], best[FASTEST], best[LIBRARY] / best[FASTEST],
+           same ? "" : "  DIFFERENT ANSWERS");
+    return same;
 }
 
 /* Microseconds of a run, the mean of 200. */
@@ -586,6 +748,56 @@ static int rows_leg_ready(void)
     return ok;
 }
 
+/* Legs that bring an old sheet too, without a call: 1,024 clauses, of which the old sheet has the first half, in the same order and from the last
+   to the first; and where the look-up is long. Plan 1, 1 has codes of one word, so that nearly all is reading, look-up and tables. */
+static int rows_longer_ready(void)
+{
+    const struct plain *narrow = &plain32_operations, *wide = &plain128_operations;
+    uint64_t kept = state;
+    make_apart(32, 1024, 3);
+    old_as_first(512, 3);
+    int ok = longer_ready(narrow, "longer, n 32, half of 1,024 of 3, plan 1, 1", 1, 1, 0);
+    ok &= longer_ready(narrow, "longer, n 32, half of 1,024 of 3, plan 11, 3", 11, 3, 0);
+    turn_round(3);
+    ok &= longer_ready(narrow, "longer, n 32, the same, last first, 1, 1", 1, 1, 0);
+    ok &= longer_ready(narrow, "longer, n 32, the same, last first, 11, 3", 11, 3, 0);
+    make_apart(128, 1024, 3);
+    old_as_first(512, 3);
+    ok &= longer_ready(wide, "longer, n 128, half of 1,024 of 3, 1, 1", 1, 1, 0);
+    ok &= longer_ready(wide, "longer, n 128, half of 1,024 of 3, 11, 3", 11, 3, 0);
+    turn_round(3);
+    ok &= longer_ready(wide, "longer, n 128, the same, last first, 1, 1", 1, 1, 0);
+    ok &= longer_ready(wide, "longer, n 128, the same, last first, 11, 3", 11, 3, 0);
+    make_apart(10, 1024, 8);
+    old_as_first(1024, 8);
+    ok &= longer_ready(narrow, "longer, n 10, all 1,024 of 8, plan 1, 1", 1, 1, 0);
+    turn_round(8);
+    ok &= longer_ready(narrow, "longer, n 10, the same, last first, 1, 1", 1, 1, 0);
+    make_found_last(8, 0);
+    ok &= longer_ready(narrow, "longer, n 10, 1,024 of 8, found last, 1, 1", 1, 1, 0);
+    make_found_last(7, 0);
+    ok &= longer_ready(narrow, "longer, n 10, 1,024 of 7, found last, 1, 1", 1, 1, 0);
+    ok &= longer_ready(narrow, "longer, n 10, 1,024 of 7, found last, 8, 2", 8, 2, 0);
+    make_found_last(7, 1);
+    ok &= longer_ready(narrow, "longer, n 10, the same, last lacking (13)", 1, 1, 3 + 8 * 1023);
+    state = kept;
+    return ok;
+}
+
+/* Searches in legs while clauses arrive: the hard sheet, of which the first 127 clauses have no model, though fewer have one, and 1,024 clauses by
+   the quarter. */
+static int rows_arriving(void)
+{
+    const struct plain *narrow = &plain32_operations;
+    make_apart(32, 160, 3);
+    int ok = arriving(narrow, "n 32, 130, 140, 150, 160 clauses of 3, 11, 3", 11, 3, 790000, (struct arrival){ 3, 130, 10 });
+    ok &= arriving(narrow, "n 32, 129 to 160 of 3, one by one, 11, 3", 11, 3, 100000, (struct arrival){ 3, 129, 1 });
+    make_apart(32, 1024, 3);
+    ok &= arriving(narrow, "n 32, 256, 512, 768, 1,024 of 3, 11, 3", 11, 3, 480000, (struct arrival){ 3, 256, 256 });
+    ok &= arriving(narrow, "n 32, 268 to 1,024 of 3, by twelve, 11, 3", 11, 3, 27500, (struct arrival){ 3, 268, 12 });
+    return ok;
+}
+
 /* Horn sheets. */
 static int rows_horn(void)
 {
@@ -660,6 +872,8 @@ int main(void)
     ok &= rows_64();
     ok &= rows_128();
     ok &= rows_leg_ready();
+    ok &= rows_longer_ready();
+    ok &= rows_arriving();
     ok &= rows_horn();
     ok &= rows_split();
     return !ok;

@@ -1,18 +1,21 @@
-/* A plain C implementation of paper 01 and of papers 2, 4 to 7 and 9 to 11 of 02, as one would write it without proofs. It is the baseline of
+/* A plain C implementation of paper 01 and of papers 2, 4 to 7 and 9 to 12 of 02, as one would write it without proofs. It is the baseline of
    bench/run and shares no code with the crates. The search in balls has two forms: as the steps are worded, with masks per clause, in plain_masks.h;
-   and with a byte of counts per clause, 16 at a time, in plain_counts.h (vectors). So have the rounds of a Horn sheet, in plain_horn.h, and plain
-   splitting, in plain_split.h. What depends on the masks' width is taken twice: for 32 variables, as before paper 5, and for 128. */
+   and with a byte of counts per clause, 16 at a time, in plain_counts.h (vectors). So have the rounds of a Horn sheet, in plain_horn.h, plain
+   splitting, in plain_split.h, and the look-up of an old sheet's clauses, in plain_longer.h. What depends on the masks' width is taken twice: for 32
+   variables, as before paper 5, and for 128. */
 #include <emmintrin.h>
 #include <stdint.h>
 #include <string.h>
 
 #define PLAIN_WORDS 4
 
+/* Of a refusal by longer the sheet is told, and the place of 13; no other place is. */
 struct plain_answer {
     uint32_t batch;
     int horn;
     uint64_t calls;
     uint32_t marks[PLAIN_WORDS];
+    uint32_t sheet, place;
 };
 
 struct plain_tally {
@@ -32,6 +35,8 @@ struct plain {
     int (*run)(uint32_t b, uint32_t s, uint32_t budget, const uint8_t *bytes, size_t length, int fast, struct plain_answer *answer);
     int (*leg)(uint32_t b, uint32_t s, uint32_t budget, const uint8_t *bytes, size_t length, int fast, struct plain_record *record,
                struct plain_answer *answer);
+    int (*longer)(uint32_t b, uint32_t s, uint32_t budget, const uint8_t *bytes, size_t length, const uint8_t *longer, size_t longer_length,
+                  int fast, struct plain_record *record, struct plain_answer *answer);
     int (*split)(uint32_t budget, const uint8_t *bytes, size_t length, int fast, struct plain_answer *answer);
     int (*toggle)(const uint8_t *bytes, size_t length, uint32_t v, struct plain_tally *tally);
     int (*recount)(const uint8_t *bytes, size_t length, struct plain_tally *tally);

@@ -125,6 +125,7 @@ static int PLAIN(call)(struct PLAIN(search) *search, MASK marks, MASK flipped, u
 #include "plain_counts.h"
 #include "plain_horn.h"
 #include "plain_split.h"
+#include "plain_longer.h"
 
 /* Searches the balls from search->next on: 1 clear, 2 none, 3 spent, which leaves the ball that did not fit as next, and the calls before it as done.
    The number of balls may not fit any word, and is not made. */
@@ -173,21 +174,31 @@ static void PLAIN(finish)(const struct PLAIN(search) *search, struct plain_answe
     for (int k = 0; k < BITS / 32; k++) answer->marks[k] = search->found >> 32 * k;
 }
 
-/* The record's refusals, in their order: 0, or the number. */
-static int PLAIN(unfit)(uint32_t b, uint32_t s, uint64_t count, const struct plain_record *record)
+/* The record's refusals, in their order: 0, or the number. Where an old sheet came too, they say which sheet they are about. */
+static int PLAIN(unfit)(uint32_t b, uint32_t s, uint64_t count, const struct plain_record *record, const struct PLAIN(sheet) *old, int fast,
+                        struct plain_answer *answer)
 {
+    const struct PLAIN(sheet) *sheet = &PLAIN(taken);
     if (count == PLAIN_MOST) return 8;
-    if (record->batch != PLAIN(taken).batch || record->n != PLAIN(taken).n || record->b != b || record->s != s) return 11;
-    return record->next < count ? 0 : 12;
+    if (record->b != b || record->s != s) return 11;
+    if (old && (record->batch != old->batch || record->n != old->n)) { answer->sheet = 1; return 11; }
+    if (record->batch != sheet->batch || record->n != sheet->n) return 11;
+    if (record->next >= count) return 12;
+    if (!old) return 0;
+    uint32_t i = fast ? PLAIN(lacking_hashed)(old, sheet) : PLAIN(lacking)(old, sheet);
+    if (i == old->count) return 0;
+    answer->sheet = 1, answer->place = PLAIN(place_of)(old, i);
+    return 13;
 }
 
 /* By balls: all of them, or those from the record's next on. A leg that is spent counts the balls that it finished. */
-static int PLAIN(by_balls)(uint32_t b, uint32_t s, struct plain_record *record, struct PLAIN(search) *search)
+static int PLAIN(by_balls)(uint32_t b, uint32_t s, struct plain_record *record, const struct PLAIN(sheet) *old, struct PLAIN(search) *search,
+                           struct plain_answer *answer)
 {
     static struct plain_layout layout;
     plain_lay_out(PLAIN(taken).n, b, s, &layout);
     uint64_t count = plain_count(&layout);
-    int refused = record ? PLAIN(unfit)(b, s, count, record) : 0;
+    int refused = record ? PLAIN(unfit)(b, s, count, record, old, search->vectors, answer) : 0;
     if (refused) return -refused;
     if (record) search->next = record->next;
     if (search->vectors) PLAIN(begin)(&PLAIN(taken), search);
@@ -198,21 +209,42 @@ static int PLAIN(by_balls)(uint32_t b, uint32_t s, struct plain_record *record, 
     return verdict;
 }
 
-/* 1 clear, 2 none, 3 spent; the number of a refusal negated. Without a record it is a run. */
-static int PLAIN(leg)(uint32_t b, uint32_t s, uint32_t budget, const uint8_t *bytes, size_t length, int fast, struct plain_record *record,
-                      struct plain_answer *answer)
+/* 1 clear, 2 none, 3 spent; the number of a refusal negated. The plan is good, and the old sheet is read, where there is one. */
+static int PLAIN(decide)(uint32_t b, uint32_t s, uint32_t budget, const uint8_t *bytes, size_t length, int fast, struct plain_record *record,
+                         const struct PLAIN(sheet) *old, struct plain_answer *answer)
 {
     struct PLAIN(search) search;
-    int verdict;
-    memset(answer, 0, sizeof *answer);
-    if (b < 1 || b > 12 || s > b) return -8;
-    int refused = PLAIN(prepare)(budget, bytes, length, &search, answer);
+    int verdict, refused = PLAIN(prepare)(budget, bytes, length, &search, answer);
     if (refused) return -refused;
     search.vectors = fast;
     answer->horn = PLAIN(is_horn)(&PLAIN(taken));
     if (answer->horn) verdict = fast ? PLAIN(rounds_watched)(&search) : PLAIN(rounds)(&search);
-    else verdict = PLAIN(by_balls)(b, s, record, &search);
+    else verdict = PLAIN(by_balls)(b, s, record, old, &search, answer);
     PLAIN(finish)(&search, answer);
+    return verdict;
+}
+
+/* Without a record it is a run. */
+static int PLAIN(leg)(uint32_t b, uint32_t s, uint32_t budget, const uint8_t *bytes, size_t length, int fast, struct plain_record *record,
+                      struct plain_answer *answer)
+{
+    memset(answer, 0, sizeof *answer);
+    if (b < 1 || b > 12 || s > b) return -8;
+    return PLAIN(decide)(b, s, budget, bytes, length, fast, record, 0, answer);
+}
+
+/* A leg that brings the old sheet and the longer one. */
+static int PLAIN(longer)(uint32_t b, uint32_t s, uint32_t budget, const uint8_t *bytes, size_t length, const uint8_t *longer, size_t longer_length,
+                         int fast, struct plain_record *record, struct plain_answer *answer)
+{
+    static struct PLAIN(sheet) old;
+    memset(answer, 0, sizeof *answer);
+    answer->sheet = 2;
+    if (b < 1 || b > 12 || s > b) return -8;
+    int refused = PLAIN(read)(bytes, length, &old);
+    if (refused) { answer->sheet = 1; return -refused; }
+    int verdict = PLAIN(decide)(b, s, budget, longer, longer_length, fast, record, &old, answer);
+    if (verdict > 0) answer->sheet = 0;
     return verdict;
 }
 
@@ -272,4 +304,6 @@ static int PLAIN(recount)(const uint8_t *bytes, size_t length, struct plain_tall
     return 0;
 }
 
-static const struct plain PLAIN(operations) = { PLAIN(check), PLAIN(run), PLAIN(leg), PLAIN(split), PLAIN(toggle), PLAIN(recount) };
+static const struct plain PLAIN(operations) = {
+    PLAIN(check), PLAIN(run), PLAIN(leg), PLAIN(longer), PLAIN(split), PLAIN(toggle), PLAIN(recount)
+};

@@ -1,7 +1,8 @@
-/* Measures the stack that run, leg, split, alike, clause_counts, tally_toggle and covering_code take: each runs on a painted stack, and the paint left
-   is counted. The sheet makes the search as deep as it can be, n flips: in every block each variable is within the radius. Each flip is of the
-   last literal of its clause, after up to seven whose variables are flipped already, so that a stack that grows with a clause's literals
-   shows too. Without its last clause the sheet is Horn and takes n + 1 rounds. n 128 is the limit; n 32 was it before paper 5.
+/* Measures the stack that run, leg, leg_longer, split, alike, clause_counts, tally_toggle and covering_code take: each runs on a painted stack, and
+   the paint left is counted. The sheet makes the search as deep as it can be, n flips: in every block each variable is within the radius. Each flip
+   is of the last literal of its clause, after up to seven whose variables are flipped already, so that a stack that grows with a clause's literals
+   shows too. Without its last clause the sheet is Horn and takes n + 1 rounds. n 128 is the limit; n 32 was it before paper 5. The old sheet of
+   leg_longer is the same one, or has 1,024 clauses, each of which stands in the longer one, mostly under another number.
    Splitting is n + 1 calls deep where a clause is decided at the last variable, by variables held, or paid, or with the longest sheet. */
 #include <pthread.h>
 #include <stdio.h>
@@ -12,8 +13,8 @@
 #define SIZE (4 << 20)
 
 static uint8_t stack[SIZE] __attribute__((aligned(4096)));
-static uint8_t sheet[36876];
-static size_t length;
+static uint8_t sheet[36876], old[36876];
+static size_t length, old_length;
 static uint16_t table[4096];
 static struct reply reply;
 
@@ -37,6 +38,21 @@ static void make(uint32_t n, int horn)
     if (!horn) put(1u << 30 | 3), put(2 * n + 1), put(2), put(4);
 }
 
+/* The old sheet: the clauses of the sheet from the last to the first, and again until there are 1,024. */
+static void make_old(void)
+{
+    size_t at[1024], count = 0, i = 0;
+    for (size_t k = 12; k < length; k += 4 * (1 + sheet[k])) at[count++] = k;
+    memcpy(old, sheet, 12);
+    old_length = 12;
+    for (uint32_t k = 0; k < 1024; k++) {
+        i = (i ? i : count) - 1;
+        size_t bytes = 4 * (1 + sheet[at[i]]);
+        memcpy(old + old_length, sheet + at[i], bytes);
+        old_length += bytes;
+    }
+}
+
 /* Clauses of the last c variables, all positive: every variable but the last is held, and then the last is paid. */
 static void make_last(uint32_t n, uint32_t count, uint32_t c)
 {
@@ -57,6 +73,14 @@ static void *do_leg(void *unused)
     memcpy(&reply, &r, sizeof reply);
     return unused;
 }
+static void do_longer(const uint8_t *first, size_t first_length)
+{
+    struct checkpoint record = { 0, sheet[8], 12, 12, 0 };
+    struct leg_reply r = leg_longer(12, 12, 1000000, first, first_length, sheet, length, &record);
+    memcpy(&reply, &r, sizeof reply);
+}
+static void *do_same(void *unused) { do_longer(sheet, length); return unused; }
+static void *do_old(void *unused) { do_longer(old, old_length); return unused; }
 static void *do_split(void *unused) { reply = split(1000000, sheet, length); return unused; }
 static void *do_alike(void *unused) { alike(sheet, length, sheet, length); return unused; }
 static void *do_counts(void *unused)
@@ -115,6 +139,17 @@ static void measure_split(uint32_t n)
            most, n + 1, held, paid, longest);
 }
 
+/* leg_longer in balls and in rounds. */
+static void measure_longer(uint32_t n)
+{
+    size_t base = used(do_nothing);
+    make(n, 1), make_old();
+    size_t horn_same = deepest(do_same, n + 1, ENGINE_HORN) - base, horn = deepest(do_old, n + 1, ENGINE_HORN) - base;
+    make(n, 0), make_old();
+    size_t same = deepest(do_same, n + 1, ENGINE_BALLS) - base, balls = deepest(do_old, n + 1, ENGINE_BALLS) - base;
+    printf("n %u: leg_longer %zu bytes (Horn: %zu; the same sheet twice: %zu, and Horn: %zu)\n", n, balls, horn, same, horn_same);
+}
+
 static void measure(uint32_t n)
 {
     size_t base = used(do_nothing);
@@ -125,6 +160,7 @@ static void measure(uint32_t n)
            deepest(do_run, n + 1, ENGINE_BALLS) - base, deepest(do_run_12, n + 1, ENGINE_BALLS) - base, horn, used(do_alike) - base,
            used(do_counts) - base, used(do_toggle) - base);
     printf("n %u: leg %zu bytes (Horn: %zu)\n", n, deepest(do_leg, n + 1, ENGINE_BALLS) - base, leg_horn);
+    measure_longer(n);
     measure_split(n);
 }
 

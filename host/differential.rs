@@ -1,9 +1,9 @@
-// An independent implementation of paper 01 and of papers 1, 2, 4, 5, 6, 7, 9, 10 and 11 of 02, compared with the proved library on
+// An independent implementation of paper 01 and of papers 1, 2, 4, 5, 6, 7, 9, 10, 11 and 12 of 02, compared with the proved library on
 // many inputs: long and short, valid and damaged, with few variables and up to 128, Horn, nearly Horn and others, for paper 2 tallies
-// of the sheet, of other sheets, and of any numbers, and for paper 11 legs from any record and whole searches in legs. What paper 8
-// says of codes and calls is tested on the library's own, and so is what all runs owe, by balls or by rounds, what they and splitting
-// owe each other, and what legs owe a run and all assignments. It shares no code with the crates. It prints how many answers of each
-// kind agreed, and every disagreement.
+// of the sheet, of other sheets, and of any numbers, for paper 11 legs from any record and whole searches in legs, and for paper 12 pairs
+// of sheets and searches during which clauses arrive. What paper 8 says of codes and calls is tested on the library's own, and so is
+// what all runs owe, by balls or by rounds, what they and splitting owe each other, and what legs owe a run and all assignments. It
+// shares no code with the crates. It prints how many answers of each kind agreed, and every disagreement.
 
 use std::collections::{BTreeSet, HashMap};
 
@@ -63,7 +63,12 @@ impl LegReply {
     }
 
     fn refused(number: u32, place: u32) -> LegReply {
-        LegReply { number, place, sheet: 1, ..LegReply::default() }
+        LegReply::about(1, number, place)
+    }
+
+    // The sheet is 1, the only one or the old one, or 2, the longer one.
+    fn about(sheet: u32, number: u32, place: u32) -> LegReply {
+        LegReply { number, place, sheet, ..LegReply::default() }
     }
 
     // Clear or none.
@@ -120,6 +125,16 @@ mod library {
         pub fn run(b: u32, s: u32, budget: u32, sheet: *const u8, length: usize) -> Reply;
         pub fn split(budget: u32, sheet: *const u8, length: usize) -> Reply;
         pub fn leg(b: u32, s: u32, budget: u32, sheet: *const u8, length: usize, record: *mut Checkpoint) -> LegReply;
+        pub fn leg_longer(
+            b: u32,
+            s: u32,
+            budget: u32,
+            old: *const u8,
+            old_length: usize,
+            longer: *const u8,
+            longer_length: usize,
+            record: *mut Checkpoint,
+        ) -> LegReply;
         pub fn clause_counts(sheet: *const u8, length: usize, clause: u32, marks: *const u32, flipped: *const u32) -> CountsReply;
         pub fn tally_begin(sheet: *const u8, length: usize, marks: *mut u32, met: *mut u8, unmet: *mut u32) -> TallyReply;
         pub fn tally_toggle(sheet: *const u8, length: usize, v: u32, marks: *mut u32, met: *mut u8, unmet: *mut u32) -> TallyReply;
@@ -140,13 +155,24 @@ fn library_split(budget: u32, sheet: &[u8]) -> Reply {
 }
 
 // The record lies between two others, so that a write past it shows.
-fn library_leg(plan: (u32, u32), budget: u32, sheet: &[u8], record: &mut Checkpoint) -> LegReply {
+fn between(record: &mut Checkpoint, leg: impl FnOnce(*mut Checkpoint) -> LegReply) -> LegReply {
     let other = Checkpoint { batch: 1, n: 2, block_length: 3, radius: 4, next: 5 };
     let mut lent = [other, *record, other];
-    let reply = unsafe { library::leg(plan.0, plan.1, budget, sheet.as_ptr(), sheet.len(), lent.as_mut_ptr().add(1)) };
+    let reply = leg(unsafe { lent.as_mut_ptr().add(1) });
     assert!(lent[0] == other && lent[2] == other, "a leg wrote past its record");
     *record = lent[1];
     reply
+}
+
+fn library_leg(plan: (u32, u32), budget: u32, sheet: &[u8], record: &mut Checkpoint) -> LegReply {
+    between(record, |lent| unsafe { library::leg(plan.0, plan.1, budget, sheet.as_ptr(), sheet.len(), lent) })
+}
+
+// Where the longer sheet begins with the old one, both are lent as one buffer.
+fn library_longer(plan: (u32, u32), budget: u32, [old, longer]: [&[u8]; 2], record: &mut Checkpoint) -> LegReply {
+    let old = if longer.starts_with(old) { &longer[..old.len()] } else { old };
+    let [(a, a_length), (b, b_length)] = [old, longer].map(|sheet| (sheet.as_ptr(), sheet.len()));
+    between(record, |lent| unsafe { library::leg_longer(plan.0, plan.1, budget, a, a_length, b, b_length, lent) })
 }
 
 // Where the two arrays are equal they are lent as one buffer.
@@ -378,7 +404,11 @@ impl Input {
         Input { bytes, sheet }
     }
 
-    // Variables and terms; a sheet that is refused has 128 and none.
+    // Batch number, variables and terms; a sheet that is refused has 0, 128 and none.
+    fn batch(&self) -> u32 {
+        self.sheet.as_ref().map_or(0, |sheet| sheet.batch)
+    }
+
     fn n(&self) -> u32 {
         self.sheet.as_ref().map_or(128, |sheet| sheet.n)
     }
@@ -778,6 +808,73 @@ fn leg(codes: &mut Codes, plan: (u32, u32), budget: u32, bytes: &[u8], record: &
     LegReply::of(answered(&sheet, BALLS, whole_balls(&sheet, &blocks, budget, &mut record.next, count)))
 }
 
+// Paper 12 of 02: the longer sheet is searched, and the old one only has to stand in it.
+fn leg_longer(codes: &mut Codes, plan: (u32, u32), budget: u32, [old, longer]: [&[u8]; 2], record: &mut Checkpoint) -> LegReply {
+    if !is_plan(plan) {
+        return LegReply::about(2, 8, 0);
+    }
+    let (old, longer) = match (read(old), read(longer)) {
+        (Err(r), _) => return LegReply::about(1, r.0, r.1),
+        (_, Err(r)) => return LegReply::about(2, r.0, r.1),
+        (Ok(old), Ok(longer)) => (old, longer),
+    };
+    if is_horn(&longer) {
+        return LegReply::of(answered(&longer, HORN, rounds(&longer, budget)));
+    }
+    let blocks = blocks_of(codes, plan, longer.n);
+    let Some(count) = count_balls(&blocks) else {
+        return LegReply::about(2, 8, 0);
+    };
+    match declined(plan, [&old, &longer], record, count) {
+        Some(refusal) => refusal,
+        None => LegReply::of(answered(&longer, BALLS, whole_balls(&longer, &blocks, budget, &mut record.next, count))),
+    }
+}
+
+// What the record, and then the old clauses, stand against.
+fn declined(plan: (u32, u32), [old, longer]: [&Sheet; 2], record: &Checkpoint, count: u64) -> Option<LegReply> {
+    let is_of = |sheet: &Sheet| (record.batch, record.n) == (sheet.batch, sheet.n);
+    if (record.block_length, record.radius) != plan {
+        Some(LegReply::about(2, 11, 0))
+    } else if !is_of(old) {
+        Some(LegReply::about(1, 11, 0))
+    } else if !is_of(longer) {
+        Some(LegReply::about(2, 11, 0))
+    } else if record.next >= count {
+        Some(LegReply::about(2, 12, 0))
+    } else {
+        first_dropped(old, longer).map(|place| LegReply::about(1, 13, place))
+    }
+}
+
+// A clause as a set.
+type Literals = BTreeSet<(u32, bool)>;
+
+fn literals(clause: &[(u32, bool)]) -> Literals {
+    clause.iter().copied().collect()
+}
+
+fn sets(sheet: &Sheet) -> BTreeSet<Literals> {
+    sheet.terms.iter().map(|t| literals(t)).collect()
+}
+
+// The first word of the first old clause that is lacking in the longer sheet.
+fn first_dropped(old: &Sheet, longer: &Sheet) -> Option<u32> {
+    let there = sets(longer);
+    let lacking = old.terms.iter().position(|t| !there.contains(&literals(t)))?;
+    Some(3 + old.terms[..lacking].iter().map(|t| 1 + t.len() as u32).sum::<u32>())
+}
+
+// From any record a clear has a model, and none and spent say that there is none in the balls gone through; all assignments are
+// tried for that where they are few.
+fn meaning(blocks: &[Block], sheet: &Sheet, [before, after]: [u64; 2], got: &LegReply) -> Option<bool> {
+    match got.verdict {
+        1 => Some(sheet.terms.iter().all(|t| is_true(t, join(got.marks)))),
+        _ if sheet.n > 10 || after == before => None,
+        _ => Some(emptied(sheet, blocks, before..after)),
+    }
+}
+
 // All assignments are tried: no model is within the radius of the centres of these balls.
 fn emptied(sheet: &Sheet, blocks: &[Block], balls: std::ops::Range<u64>) -> bool {
     let radius: u32 = blocks.iter().map(|b| b.1).sum();
@@ -887,7 +984,6 @@ fn alike(a: &[u8], b: &[u8]) -> AlikeReply {
         (Ok(_), Err(r)) => return refused(2, r),
         (Ok(a), Ok(b)) => (a, b),
     };
-    let sets = |s: &Sheet| -> BTreeSet<BTreeSet<(u32, bool)>> { s.terms.iter().map(|t| t.iter().copied().collect()).collect() };
     let same = a.n == b.n && sets(&a) == sets(&b);
     AlikeReply { answer: if same { 1 } else { 2 }, ..AlikeReply::default() }
 }
@@ -1019,6 +1115,9 @@ fn nothing_agrees() -> bool {
     let record = Checkpoint { batch: 0, n: 0, block_length: 3, radius: 1, next: 1 };
     let mut parked = record;
     let leg = unsafe { library::leg(3, 1, 9, none, 0, &mut parked) };
+    let some = written(2, &FOUR);
+    let old = unsafe { library::leg_longer(3, 1, 9, none, 0, some.as_ptr(), some.len(), &mut parked) };
+    let longer = unsafe { library::leg_longer(3, 1, 9, some.as_ptr(), some.len(), none, 0, &mut parked) };
     let words = [5, 6, 7, 8];
     let counts = unsafe { library::clause_counts(none, 0, 0, words.as_ptr(), words.as_ptr()) };
     let mut lent = Lent { marks: words, met: [4; 1024], unmet: 5 };
@@ -1028,7 +1127,7 @@ fn nothing_agrees() -> bool {
     let alike = unsafe { library::alike(none, 0, none, 0) };
     let code = unsafe { library::covering_code(1, 0, std::ptr::null_mut(), 0) };
     [run, split] == [Reply { number: 2, ..Reply::default() }; 2]
-        && leg == LegReply::refused(2, 0)
+        && [leg, old, longer] == [1, 1, 2].map(|sheet| LegReply::about(sheet, 2, 0))
         && parked == record
         && counts == CountsReply { number: 2, ..CountsReply::default() }
         && [begun, toggled] == [TallyReply { number: 2, place: 0 }; 2]
@@ -1067,9 +1166,11 @@ fn sources_agree() -> bool {
         let bytes = written(*n, clauses);
         let verdict = if *model { 1 } else { 2 };
         all_plans().iter().all(|plan| {
-            let mut start = Checkpoint { batch: 2, n: *n, block_length: plan.0, radius: plan.1, next: 0 };
+            let start = Checkpoint { batch: 2, n: *n, block_length: plan.0, radius: plan.1, next: 0 };
+            let pair = [&written(*n, &clauses[..1])[..], &bytes];
             library_run(*plan, u32::MAX, &bytes).verdict == verdict
-                && library_leg(*plan, u32::MAX, &bytes, &mut start).verdict == verdict
+                && library_leg(*plan, u32::MAX, &bytes, &mut start.clone()).verdict == verdict
+                && library_longer(*plan, u32::MAX, pair, &mut start.clone()).verdict == verdict
         }) && library_split(u32::MAX, &bytes).verdict == verdict
     })
 }
@@ -2745,13 +2846,22 @@ const REFUSALS: [Refusal; 46] = [
     ((1, 0), 128, &FACT, [3, 2, 1, 1], u64::MAX, 0),
 ];
 
+// It takes two rounds.
+fn fact_ends(budget: u32) -> Ended {
+    if budget < 2 {
+        (3, [0; 4], budget)
+    } else {
+        (1, [1, 0, 0, 0], 2)
+    }
+}
+
 // Whatever the budget is, and the record stays.
 fn leg_refusals_agree(codes: &mut Codes) -> bool {
     REFUSALS.iter().all(|(plan, n, clauses, [batch, own_n, block_length, radius], next, number)| {
         let bytes = written(*n, clauses);
         let record = Checkpoint { batch: *batch, n: *own_n, block_length: *block_length, radius: *radius, next: *next };
         [0, 1, 2, 9, u32::MAX].into_iter().all(|budget| {
-            let (verdict, marks, calls) = if budget < 2 { (3, [0; 4], budget) } else { (1, [1, 0, 0, 0], 2) };
+            let (verdict, marks, calls) = fact_ends(budget);
             let expected = match number {
                 0 => LegReply { verdict, batch: 2, road: HORN, marks, calls, ..LegReply::default() },
                 // the third word is too large
@@ -2777,8 +2887,7 @@ fn in_order(asked: ((u32, u32), u32), input: &Input, record: &Checkpoint) -> (Le
         Err(r) => return refused(r.0, r.1),
     };
     if sheet.terms.len() == 1 {
-        let ended = if budget < 2 { (3, [0; 4], budget) } else { (1, [1, 0, 0, 0], 2) };
-        return (answer(HORN, ended), record.next);
+        return (answer(HORN, fact_ends(budget)), record.next);
     }
     if sheet.n >= 63 {
         return refused(8, 0);
@@ -2894,6 +3003,526 @@ fn refused_sheets_agree(codes: &mut Codes) -> bool {
                     && says((1, 2), budget, LegReply::refused(8, 0))
             })
         })
+    })
+}
+
+// ---- fixed cases of paper 12 of 02
+
+// The library and the leg above both give this reply, and leave the second of the records.
+fn longer_to(codes: &mut Codes, asked: ((u32, u32), u32), pair: [&[u8]; 2], records: [Checkpoint; 2], expected: LegReply) -> bool {
+    let (plan, budget) = asked;
+    let [mut got, mut own] = [records[0]; 2];
+    let replies = [library_longer(plan, budget, pair, &mut got), leg_longer(codes, plan, budget, pair, &mut own)];
+    replies == [expected; 2] && [got, own] == [records[1]; 2]
+}
+
+// By balls, from the one to the other, in the record of the longer sheet.
+fn longer_ends(codes: &mut Codes, asked: ((u32, u32), u32), pair: [&[u8]; 2], balls: [u64; 2], ended: Ended) -> bool {
+    let (verdict, marks, calls) = ended;
+    read(pair[1]).is_ok_and(|sheet| {
+        let records = balls.map(|next| Checkpoint::of(asked.0, &sheet, next));
+        let expected = LegReply { verdict, batch: sheet.batch, road: BALLS, marks, calls, ..LegReply::default() };
+        longer_to(codes, asked, pair, records, expected)
+    })
+}
+
+// Sheets whose clauses all stand in this one: all of them backward with their literals backward, the sheet itself, no clause, either
+// half, and all twice.
+fn standing(n: u32, clauses: &[&[i32]]) -> [Vec<u8>; 6] {
+    let backward: Vec<Vec<i32>> = clauses.iter().rev().map(|c| c.iter().rev().copied().collect()).collect();
+    let (first, second) = clauses.split_at(clauses.len() / 2);
+    let others = [clauses, &[], first, second, &[clauses, clauses].concat()].map(|some| written(n, some));
+    let [itself, none, first, second, twice] = others;
+    [written_all(n, &backward), itself, none, first, second, twice]
+}
+
+// The longer sheet alone decides: each fixed leg of it is the same after any old sheet that stands in it.
+fn longer_legs_agree(codes: &mut Codes) -> bool {
+    LEGS.iter().all(|(plan, budget, n, clauses, next, ended, later)| {
+        let longer = written(*n, clauses);
+        // each leg makes the code anew
+        let some = if rarity(*plan) == 1 { 6 } else { 1 };
+        let mut says = |old: &Vec<u8>| longer_ends(codes, (*plan, *budget), [old, &longer], [*next, *later], *ended);
+        standing(*n, clauses).iter().take(some).all(&mut says)
+    })
+}
+
+// From each ball with each budget up to one more than all balls need.
+fn each_longer_agrees(codes: &mut Codes) -> bool {
+    EACH.iter().all(|(plan, n, clauses, balls)| {
+        let [old, longer] = [&clauses[1..], *clauses].map(|some| written(*n, some));
+        let all: u32 = balls.iter().map(|ball| ball.0).sum();
+        (0..balls.len()).flat_map(|next| (0..=all + 1).map(move |budget| (next, budget))).all(|(next, budget)| {
+            let (later, ended) = by_hand(balls, next, budget);
+            longer_ends(codes, (*plan, budget), [&old, &longer], [next as u64, later as u64], ended)
+        })
+    })
+}
+
+type Clauses = &'static [&'static [i32]];
+
+const NINE_DOWN: [i32; 8] = [9, 8, -7, 6, 5, -4, 3, 2];
+const NINE_UP: [i32; 8] = [2, 3, -4, 5, 6, -7, 8, 9];
+
+// The number of variables, the old and the longer clauses, and how a leg of the one ball of plan 1, 1 ends.
+const STANDING: [(u32, [Clauses; 2], Ended); 25] = [
+    // no old clause, and the same clauses
+    (2, [&[], &[&[1, 2]]], (1, [1, 0, 0, 0], 2)),
+    (2, [&[&[1, 2]], &[&[1, 2]]], (1, [1, 0, 0, 0], 2)),
+    (2, [&FOUR, &FOUR], (2, [0; 4], 3)),
+    // more of them, after, before and between the old ones; the old one alone would have another model
+    (3, [&[&[1, 2]], &[&[1, 2], &[3]]], (1, [5, 0, 0, 0], 3)),
+    (3, [&[&[1, 2]], &[&[3], &[1, 2]]], (1, [5, 0, 0, 0], 3)),
+    (3, [&[&[1, 2], &[3]], &[&[1, 2], &[-1], &[3]]], (1, [6, 0, 0, 0], 3)),
+    // in another order
+    (3, [&[&[1, 2], &[3]], &[&[3], &[1, 2]]], (1, [5, 0, 0, 0], 3)),
+    (3, [&[&[3], &[-1], &[1, 2]], &[&[1, 2], &[3], &[-1]]], (1, [6, 0, 0, 0], 3)),
+    // repeated in the old sheet, in the longer one, and there fewer times; a repeat may give way to another clause
+    (2, [&[&[1, 2], &[1, 2], &[1, 2]], &[&[1, 2]]], (1, [1, 0, 0, 0], 2)),
+    (2, [&[&[1, 2]], &[&[1, 2], &[1, 2], &[1, 2]]], (1, [1, 0, 0, 0], 2)),
+    (3, [&[&[1, 2], &[1, 2]], &[&[1, 2], &[3]]], (1, [5, 0, 0, 0], 3)),
+    (2, [&[&[1, 2], &[-1], &[1, 2], &[-1]], &[&[-1], &[1, 2]]], (1, [2, 0, 0, 0], 2)),
+    (2, [&[&[2, 1], &[1, 2]], &[&[1, 2]]], (1, [1, 0, 0, 0], 2)),
+    // literals in another order: the longer sheet's is the one that counts
+    (2, [&[&[1, 2]], &[&[2, 1]]], (1, [2, 0, 0, 0], 2)),
+    (2, [&[&[2, 1]], &[&[1, 2]]], (1, [1, 0, 0, 0], 2)),
+    (4, [&[&[4, -3, 1]], &[&[1, 2], &[-3, 1, 4]]], (1, [1, 0, 0, 0], 2)),
+    (9, [&[&NINE_DOWN], &[&NINE_UP, &[1, 9]]], (1, [1, 0, 0, 0], 2)),
+    (128, [&[&HELD, &[128, 1]], &[&[1, 128], &[-128, -97, -96, -65, -64, -33, -32, -1]]], (1, [1, 0, 0, 0], 2)),
+    // the empty clause kept, added, once for twice, and the only old one
+    (2, [&[&[], &[1, 2]], &[&[1, 2], &[]]], (2, [0; 4], 1)),
+    (2, [&[&[1, 2]], &[&[], &[1, 2]]], (2, [0; 4], 1)),
+    (2, [&[&[], &[]], &[&[1, 2], &[]]], (2, [0; 4], 1)),
+    (2, [&[&[]], &[&[1, 2], &[], &[]]], (2, [0; 4], 1)),
+    // the old sheet is Horn, and the longer one is not
+    (2, [&[&[1]], &[&[1], &[1, 2]]], (1, [1, 0, 0, 0], 2)),
+    (2, [&[&[-1], &[-2]], &[&[-2], &[-1], &[1, 2]]], (2, [0; 4], 1)),
+    // the old sheet has a model, the longer one none
+    (2, [&[&[1, 2], &[1, -2]], &[&[1, 2], &[1, -2], &[-1, 2], &[-1, -2]]], (2, [0; 4], 3)),
+];
+
+fn kept_agree(codes: &mut Codes) -> bool {
+    STANDING.iter().all(|(n, pair, ended)| {
+        let [old, longer] = pair.map(|clauses| written(*n, clauses));
+        let pair: [&[u8]; 2] = [&old, &longer];
+        [ended.2, u32::MAX].into_iter().all(|budget| longer_ends(codes, ((1, 1), budget), pair, [0, 1], *ended))
+            && longer_ends(codes, ((1, 1), ended.2 - 1), pair, [0, 0], (3, [0; 4], 0))
+    })
+}
+
+// The number of variables, the old and the longer clauses, and the place of refusal 13.
+const DROPPED: [(u32, [Clauses; 2], u32); 38] = [
+    // the only one, the first, the second and the last of three
+    (3, [&[&[3]], &[&[1, 2]]], 3),
+    (3, [&[&[3], &[1, 2], &[1]], &[&[1, 2], &[1]]], 3),
+    (3, [&[&[1, 2], &[3], &[1]], &[&[1, 2], &[1]]], 6),
+    (3, [&[&[1, 2], &[1], &[3]], &[&[1, 2], &[1]]], 8),
+    (3, [&[&[1], &[1, 2], &[3]], &[&[1, 2], &[1]]], 8),
+    // the first of several
+    (3, [&[&[1, 2], &[3], &[1], &[2]], &[&[1, 2]]], 6),
+    (3, [&[&[1, 2], &[2], &[3]], &[&[1, 2], &[3], &[3]]], 6),
+    (3, [&[&[1, 2, 3], &[3], &[3, 2, 1], &[2]], &[&[3, 1, 2], &[1, 2]]], 7),
+    // a repeat does not stand for another clause, nor does more than one
+    (2, [&[&[1, 2], &[2]], &[&[1, 2], &[1, 2]]], 6),
+    (2, [&[&[1, 2], &[1]], &[&[1, 2], &[1, 2], &[1, 2], &[2]]], 6),
+    // repeats in the old sheet count for the place
+    (2, [&[&[1, 2], &[1, 2], &[2, 1], &[2]], &[&[1, 2]]], 12),
+    (2, [&[&[1, 2], &[2], &[2], &[2]], &[&[1, 2]]], 6),
+    // other lengths at the same places of the longer sheet, less and more
+    (4, [&[&[1], &[2, 3, 4], &[-1]], &[&[1, 2], &[-4], &[2, 3, 4], &[1]]], 9),
+    (4, [&[&[2, 3, 4], &[1, 2], &[3]], &[&[-4], &[-3], &[2, 1], &[4, 2, 3]]], 10),
+    (4, [&[&[1], &[2], &[-1]], &[&[1, 2, 3, 4], &[2], &[1]]], 7),
+    (9, [&[&EIGHT, &NINE_DOWN, &[1, 2]], &[&[-2], &NINE_UP, &EIGHT]], 21),
+    // some literals of a clause, or more than all, or those of two
+    (3, [&[&[1]], &[&[1, 2]]], 3),
+    (3, [&[&[1, 2, 3]], &[&[1, 2]]], 3),
+    (3, [&[&[1, 2]], &[&[1, 2, 3], &[1, 3], &[2, 3]]], 3),
+    (3, [&[&[1, 2]], &[&[1], &[2], &[1, 3]]], 3),
+    (4, [&[&[1, 2], &[3, 4]], &[&[1, 2], &[1, 3], &[2, 4], &[1, 2, 3, 4]]], 6),
+    // another sign, of one literal or of all
+    (2, [&[&[1, -2]], &[&[1, 2]]], 3),
+    (2, [&[&[-2, -1]], &[&[1, 2], &[1, -2], &[-1, 2]]], 3),
+    (2, [&[&[-1]], &[&[1], &[1, 2]]], 3),
+    (9, [&[&NINE_DOWN], &[&[2, 3, -4, 5, 6, -7, 8, -9], &[1, 9]]], 3),
+    // the empty clause dropped, alone, among others, and beside a repeat of it that is dropped too
+    (2, [&[&[]], &[&[1, 2]]], 3),
+    (2, [&[&[1, 2], &[]], &[&[1, 2]]], 6),
+    (2, [&[&[], &[1, 2], &[]], &[&[1, 2]]], 3),
+    // it stands for no other clause, and has one word
+    (2, [&[&[1]], &[&[], &[1, 2]]], 3),
+    (2, [&[&[], &[1]], &[&[], &[1, 2]]], 4),
+    (2, [&[&[], &[], &[], &[2]], &[&[1, 2], &[]]], 6),
+    // the old sheet is Horn or not
+    (3, [&[&[-1], &[-2, 3]], &[&[1, 2], &[-1]]], 5),
+    (3, [&[&[1, 2], &[2, 3]], &[&[1, 2]]], 6),
+    // variables at the same place of two words are two
+    (128, [&[&[1, 2], &[33]], &[&[1, 2], &[1]]], 6),
+    (128, [&[&[1, 2], &[1]], &[&[1, 2], &[33], &[65], &[97]]], 6),
+    (128, [&[&[32, 64, 96]], &[&[1, 2], &[32, 64, 128]]], 3),
+    (128, [&[&[96]], &[&[1, 2], &[128]]], 3),
+    (128, [&[&ENDS, &HELD, &MIXED], &[&HELD, &ENDS]], 21),
+];
+
+// Whatever the budget, in the one ball of plan 1, 1 or from a later one of plan 1, 0, where there are not too many.
+fn dropped_agree(codes: &mut Codes) -> bool {
+    DROPPED.iter().all(|(n, pair, place)| {
+        let [old, longer] = pair.map(|clauses| written(*n, clauses));
+        let plans = [((1, 1), 0), ((1, 0), 3)].into_iter().take(if *n < 63 { 2 } else { 1 });
+        plans.flat_map(|plan| [0, 1, 9, u32::MAX].map(|budget| (plan, budget))).all(|((plan, next), budget)| {
+            let record = Checkpoint { batch: 2, n: *n, block_length: plan.0, radius: plan.1, next };
+            longer_to(codes, (plan, budget), [&old, &longer], [record; 2], LegReply::about(1, 13, *place))
+        })
+    })
+}
+
+// A clause for each place, no two alike: variables that follow each other, from another one on at every eighth place.
+fn distinct(seat: usize) -> Vec<i32> {
+    (0..=seat % 8).map(|i| ((seat / 8 + i) % 128 + 1) as i32).collect()
+}
+
+// Of 1,024 clauses the last is lacking, then one before it too, and so on. The longer sheet has the others backward, with their literals
+// backward, and in the stead of each that is lacking one with another sign. Eight clauses are 44 words.
+fn dropped_seats_agree(codes: &mut Codes) -> bool {
+    let all: Vec<Vec<i32>> = (0..1024).map(distinct).collect();
+    let old = written_all(128, &all);
+    let mut longer: Vec<Vec<i32>> = all.iter().rev().map(|c| c.iter().rev().copied().collect()).collect();
+    let record = Checkpoint { batch: 2, n: 128, block_length: 1, radius: 1, next: 0 };
+    let spent = LegReply { verdict: 3, batch: 2, road: BALLS, ..LegReply::default() };
+    let stands = longer_to(codes, ((1, 1), 0), [&old, &written_all(128, &longer)], [record; 2], spent);
+    let mut seats = [1023, 1022].into_iter().chain((0..1022).rev().step_by(73));
+    stands
+        && seats.all(|seat: usize| {
+            longer[1023 - seat][0] *= -1;
+            let place = 3 + 44 * (seat / 8) + (0..seat % 8).map(|before| 2 + before).sum::<usize>();
+            let refusal = LegReply::about(1, 13, place as u32);
+            longer_to(codes, ((1, 1), 9), [&old, &written_all(128, &longer)], [record; 2], refusal)
+        })
+}
+
+// The longest sheets there are, of the same clauses and then with another sign in the last.
+fn longest_agree(codes: &mut Codes) -> bool {
+    let clause = |i: i32| -> Vec<i32> { (1..=8).map(|v| (i / 256 * 8 + v) * if i >> (v - 1) & 1 == 1 { -1 } else { 1 }).collect() };
+    let mut all: Vec<Vec<i32>> = (0..1024).map(clause).collect();
+    let old = written_all(32, &all);
+    let record = Checkpoint { batch: 2, n: 32, block_length: 1, radius: 1, next: 0 };
+    let spent = LegReply { verdict: 3, batch: 2, road: BALLS, ..LegReply::default() };
+    let stands = longer_to(codes, ((1, 1), 9), [&old, &old], [record; 2], spent);
+    all[1023][7] *= -1;
+    stands && longer_to(codes, ((1, 1), 9), [&old, &written_all(32, &all)], [record; 2], LegReply::about(1, 13, 3 + 1023 * 9))
+}
+
+// A sheet by its batch number, its number of variables and its clauses.
+type Given = (u32, u32, Clauses);
+
+fn given((batch, n, clauses): &Given) -> Vec<u8> {
+    write(&Sheet { batch: *batch, n: *n, terms: clauses.iter().map(|c| term_of(c)).collect() })
+}
+
+// The plan, the old and the longer sheet, batch, n, block length and radius of the record, its next ball, and the refusal: sheet, number
+// and place, or zeros where the longer sheet is Horn and has its answer.
+type Declined = ((u32, u32), [Given; 2], [u32; 4], u64, [u32; 3]);
+
+// Old clauses that stand in FOUR, and others of which the second does not.
+const PAIR: [&[i32]; 1] = [&[2, 1]];
+const MORE: [&[i32]; 2] = [&[2, 1], &[1]];
+
+const DECLINED: [Declined; 97] = [
+    // each alone: a bad plan
+    ((2, 3), [(2, 2, &PAIR), (2, 2, &FOUR)], [2, 2, 2, 3], 0, [2, 8, 0]),
+    ((0, 0), [(2, 2, &PAIR), (2, 2, &FOUR)], [2, 2, 0, 0], 0, [2, 8, 0]),
+    ((13, 1), [(2, 2, &PAIR), (2, 2, &FOUR)], [2, 2, 13, 1], 0, [2, 8, 0]),
+    // a bad sheet, and a Horn one, also where the old one is Horn too
+    ((2, 1), [(2, 129, &PAIR), (2, 2, &FOUR)], [2, 2, 2, 1], 0, [1, 5, 2]),
+    ((2, 1), [(2, 2, &PAIR), (2, 129, &FOUR)], [2, 2, 2, 1], 0, [2, 5, 2]),
+    ((2, 1), [(2, 2, &[]), (2, 2, &FACT)], [2, 2, 2, 1], 0, [0, 0, 0]),
+    ((2, 1), [(2, 2, &FACT), (2, 2, &FACT)], [2, 2, 2, 1], 0, [0, 0, 0]),
+    // 2^63 balls, with n 63 and with n 128
+    ((1, 0), [(2, 63, &PAIR), (2, 63, &FOUR)], [2, 63, 1, 0], 0, [2, 8, 0]),
+    ((1, 0), [(2, 128, &PAIR), (2, 128, &FOUR)], [2, 128, 1, 0], 0, [2, 8, 0]),
+    // another plan, another batch or n of the old sheet, of the longer one, and of both
+    ((2, 1), [(2, 2, &PAIR), (2, 2, &FOUR)], [2, 2, 3, 1], 0, [2, 11, 0]),
+    ((2, 1), [(2, 2, &PAIR), (2, 2, &FOUR)], [2, 2, 2, 2], 0, [2, 11, 0]),
+    ((2, 1), [(3, 2, &PAIR), (2, 2, &FOUR)], [2, 2, 2, 1], 0, [1, 11, 0]),
+    ((2, 1), [(2, 3, &PAIR), (2, 2, &FOUR)], [2, 2, 2, 1], 0, [1, 11, 0]),
+    ((2, 1), [(2, 2, &PAIR), (3, 2, &FOUR)], [2, 2, 2, 1], 0, [2, 11, 0]),
+    ((2, 1), [(2, 2, &PAIR), (2, 3, &FOUR)], [2, 2, 2, 1], 0, [2, 11, 0]),
+    ((2, 1), [(2, 2, &PAIR), (2, 2, &FOUR)], [3, 2, 2, 1], 0, [1, 11, 0]),
+    ((2, 1), [(2, 2, &PAIR), (2, 2, &FOUR)], [2, 3, 2, 1], 0, [1, 11, 0]),
+    // a finished search, and a clause dropped
+    ((2, 1), [(2, 2, &PAIR), (2, 2, &FOUR)], [2, 2, 2, 1], 2, [2, 12, 0]),
+    ((2, 1), [(2, 2, &PAIR), (2, 2, &FOUR)], [2, 2, 2, 1], 3, [2, 12, 0]),
+    ((2, 1), [(2, 2, &PAIR), (2, 2, &FOUR)], [2, 2, 2, 1], 1 << 32, [2, 12, 0]),
+    ((2, 1), [(2, 2, &PAIR), (2, 2, &FOUR)], [2, 2, 2, 1], 1 << 63, [2, 12, 0]),
+    ((2, 1), [(2, 2, &PAIR), (2, 2, &FOUR)], [2, 2, 2, 1], u64::MAX, [2, 12, 0]),
+    ((2, 1), [(2, 2, &MORE), (2, 2, &FOUR)], [2, 2, 2, 1], 0, [1, 13, 6]),
+    ((2, 1), [(2, 2, &MORE), (2, 2, &FOUR)], [2, 2, 2, 1], 1, [1, 13, 6]),
+    // a bad plan and each of the others
+    ((2, 3), [(2, 129, &PAIR), (2, 2, &FOUR)], [2, 2, 2, 3], 0, [2, 8, 0]),
+    ((2, 3), [(2, 2, &PAIR), (2, 129, &FOUR)], [2, 2, 2, 3], 0, [2, 8, 0]),
+    ((2, 3), [(2, 2, &[]), (2, 2, &FACT)], [2, 2, 2, 3], 0, [2, 8, 0]),
+    ((0, 0), [(2, 128, &PAIR), (2, 128, &FOUR)], [2, 128, 0, 0], 0, [2, 8, 0]),
+    ((2, 3), [(2, 2, &PAIR), (2, 2, &FOUR)], [2, 2, 2, 1], 0, [2, 8, 0]),
+    ((2, 3), [(3, 2, &PAIR), (2, 2, &FOUR)], [2, 2, 2, 3], 0, [2, 8, 0]),
+    ((2, 3), [(2, 2, &PAIR), (3, 2, &FOUR)], [2, 2, 2, 3], 0, [2, 8, 0]),
+    ((2, 3), [(2, 2, &PAIR), (2, 2, &FOUR)], [2, 2, 2, 3], u64::MAX, [2, 8, 0]),
+    ((2, 3), [(2, 2, &MORE), (2, 2, &FOUR)], [2, 2, 2, 3], 0, [2, 8, 0]),
+    // a bad old sheet and each of those after it; what it reads as up to there does not matter
+    ((2, 1), [(2, 129, &PAIR), (2, 129, &FOUR)], [2, 2, 2, 1], 0, [1, 5, 2]),
+    ((2, 1), [(2, 129, &PAIR), (2, 2, &FACT)], [2, 2, 2, 1], 0, [1, 5, 2]),
+    ((2, 1), [(2, 129, &FACT), (2, 2, &FACT)], [2, 2, 2, 1], 0, [1, 5, 2]),
+    ((1, 0), [(2, 129, &PAIR), (2, 63, &FOUR)], [2, 63, 1, 0], 0, [1, 5, 2]),
+    ((2, 1), [(2, 129, &PAIR), (2, 2, &FOUR)], [2, 2, 2, 2], 0, [1, 5, 2]),
+    ((2, 1), [(3, 129, &PAIR), (2, 2, &FOUR)], [2, 2, 2, 1], 0, [1, 5, 2]),
+    ((2, 1), [(2, 129, &PAIR), (3, 2, &FOUR)], [2, 2, 2, 1], 0, [1, 5, 2]),
+    ((2, 1), [(2, 129, &PAIR), (2, 2, &FOUR)], [2, 2, 2, 1], 2, [1, 5, 2]),
+    ((2, 1), [(2, 129, &MORE), (2, 2, &FOUR)], [2, 2, 2, 1], 0, [1, 5, 2]),
+    // a bad longer sheet and each of those after it
+    ((2, 1), [(2, 2, &FACT), (2, 129, &FACT)], [2, 2, 2, 1], 0, [2, 5, 2]),
+    ((1, 0), [(2, 63, &PAIR), (2, 129, &FOUR)], [2, 63, 1, 0], 0, [2, 5, 2]),
+    ((2, 1), [(2, 2, &PAIR), (2, 129, &FOUR)], [2, 2, 1, 1], 0, [2, 5, 2]),
+    ((2, 1), [(3, 2, &PAIR), (2, 129, &FOUR)], [2, 2, 2, 1], 0, [2, 5, 2]),
+    ((2, 1), [(2, 3, &PAIR), (2, 129, &FOUR)], [2, 2, 2, 1], 0, [2, 5, 2]),
+    ((2, 1), [(2, 2, &PAIR), (3, 129, &FOUR)], [2, 2, 2, 1], 0, [2, 5, 2]),
+    ((2, 1), [(2, 2, &PAIR), (2, 129, &FOUR)], [2, 2, 2, 1], u64::MAX, [2, 5, 2]),
+    ((2, 1), [(2, 2, &MORE), (2, 129, &FOUR)], [2, 2, 2, 1], 0, [2, 5, 2]),
+    // a Horn longer sheet and each of those after it
+    ((1, 0), [(2, 63, &[]), (2, 63, &FACT)], [2, 63, 1, 0], 0, [0, 0, 0]),
+    ((1, 0), [(2, 128, &FACT), (2, 128, &FACT)], [2, 128, 1, 0], 0, [0, 0, 0]),
+    ((2, 1), [(2, 2, &[]), (2, 2, &FACT)], [2, 2, 3, 1], 0, [0, 0, 0]),
+    ((2, 1), [(2, 2, &[]), (2, 2, &FACT)], [2, 2, 2, 2], 0, [0, 0, 0]),
+    ((2, 1), [(3, 2, &[]), (2, 2, &FACT)], [2, 2, 2, 1], 0, [0, 0, 0]),
+    ((2, 1), [(2, 3, &[]), (2, 2, &FACT)], [2, 2, 2, 1], 0, [0, 0, 0]),
+    ((2, 1), [(2, 2, &[]), (3, 2, &FACT)], [2, 2, 2, 1], 0, [0, 0, 0]),
+    ((2, 1), [(2, 2, &[]), (2, 3, &FACT)], [2, 2, 2, 1], 0, [0, 0, 0]),
+    ((2, 1), [(2, 2, &[]), (2, 2, &FACT)], [2, 2, 2, 1], 2, [0, 0, 0]),
+    ((2, 1), [(2, 2, &[]), (2, 2, &FACT)], [2, 2, 2, 1], u64::MAX, [0, 0, 0]),
+    ((2, 1), [(2, 2, &FOUR), (2, 2, &FACT)], [2, 2, 2, 1], 0, [0, 0, 0]),
+    ((2, 1), [(2, 2, &[&[-1]]), (2, 2, &FACT)], [2, 2, 2, 1], 0, [0, 0, 0]),
+    // an old sheet that is Horn, or has too many balls, is no matter where the longer one is not, or has not
+    ((2, 1), [(2, 2, &[]), (2, 2, &FOUR)], [2, 2, 2, 1], 2, [2, 12, 0]),
+    ((2, 1), [(2, 2, &FACT), (2, 2, &FOUR)], [2, 2, 2, 1], 0, [1, 13, 3]),
+    ((1, 0), [(2, 63, &PAIR), (2, 62, &FOUR)], [2, 62, 1, 0], 0, [1, 11, 0]),
+    // 2^63 balls and each of those after it
+    ((1, 0), [(2, 63, &PAIR), (2, 63, &FOUR)], [2, 63, 2, 0], 0, [2, 8, 0]),
+    ((1, 0), [(3, 63, &PAIR), (2, 63, &FOUR)], [2, 63, 1, 0], 0, [2, 8, 0]),
+    ((1, 0), [(2, 62, &PAIR), (2, 63, &FOUR)], [2, 62, 1, 0], 0, [2, 8, 0]),
+    ((1, 0), [(2, 62, &PAIR), (2, 63, &FOUR)], [2, 63, 1, 0], 0, [2, 8, 0]),
+    ((1, 0), [(2, 63, &PAIR), (3, 63, &FOUR)], [2, 63, 1, 0], 0, [2, 8, 0]),
+    ((1, 0), [(2, 63, &PAIR), (2, 63, &FOUR)], [2, 63, 1, 0], 1 << 63, [2, 8, 0]),
+    ((1, 0), [(2, 63, &MORE), (2, 63, &FOUR)], [2, 63, 1, 0], 0, [2, 8, 0]),
+    // another plan and each of those after it
+    ((2, 1), [(3, 2, &PAIR), (2, 2, &FOUR)], [2, 2, 2, 0], 0, [2, 11, 0]),
+    ((2, 1), [(2, 2, &PAIR), (3, 2, &FOUR)], [2, 2, 1, 1], 0, [2, 11, 0]),
+    ((2, 1), [(2, 2, &PAIR), (2, 2, &FOUR)], [3, 2, 1, 1], 0, [2, 11, 0]),
+    ((2, 1), [(2, 2, &PAIR), (2, 2, &FOUR)], [2, 2, 2, 2], 2, [2, 11, 0]),
+    ((2, 1), [(2, 2, &MORE), (2, 2, &FOUR)], [2, 2, 2, 2], 0, [2, 11, 0]),
+    // another batch or n of the old sheet and each of those after it
+    ((2, 1), [(3, 2, &PAIR), (3, 2, &FOUR)], [2, 2, 2, 1], 0, [1, 11, 0]),
+    ((2, 1), [(2, 3, &PAIR), (3, 2, &FOUR)], [2, 2, 2, 1], 0, [1, 11, 0]),
+    ((2, 1), [(3, 2, &PAIR), (2, 2, &FOUR)], [2, 2, 2, 1], 2, [1, 11, 0]),
+    ((2, 1), [(3, 2, &MORE), (2, 2, &FOUR)], [2, 2, 2, 1], 0, [1, 11, 0]),
+    ((2, 1), [(2, 3, &MORE), (2, 2, &FOUR)], [2, 2, 2, 1], 0, [1, 11, 0]),
+    // of the longer one, and those after it; and a finished search with a clause dropped
+    ((2, 1), [(2, 2, &PAIR), (3, 2, &FOUR)], [2, 2, 2, 1], 2, [2, 11, 0]),
+    ((2, 1), [(2, 2, &MORE), (3, 2, &FOUR)], [2, 2, 2, 1], 0, [2, 11, 0]),
+    ((2, 1), [(2, 2, &MORE), (2, 3, &FOUR)], [2, 2, 2, 1], 0, [2, 11, 0]),
+    ((2, 1), [(2, 2, &MORE), (2, 2, &FOUR)], [2, 2, 2, 1], 2, [2, 12, 0]),
+    ((2, 1), [(2, 2, &MORE), (2, 2, &FOUR)], [2, 2, 2, 1], u64::MAX, [2, 12, 0]),
+    // all at once, and then without the first, the second and so on
+    ((2, 3), [(3, 129, &MORE), (4, 129, &FACT)], [5, 2, 1, 1], u64::MAX, [2, 8, 0]),
+    ((1, 0), [(3, 129, &MORE), (4, 129, &FACT)], [5, 2, 1, 1], u64::MAX, [1, 5, 2]),
+    ((1, 0), [(3, 128, &MORE), (4, 129, &FACT)], [5, 2, 1, 1], u64::MAX, [2, 5, 2]),
+    ((1, 0), [(3, 128, &MORE), (4, 128, &FACT)], [5, 2, 1, 1], u64::MAX, [0, 0, 0]),
+    ((1, 0), [(3, 128, &MORE), (4, 128, &FOUR)], [5, 2, 1, 1], u64::MAX, [2, 8, 0]),
+    ((1, 0), [(3, 62, &MORE), (4, 61, &FOUR)], [5, 2, 1, 1], u64::MAX, [2, 11, 0]),
+    ((1, 0), [(3, 62, &MORE), (4, 61, &FOUR)], [5, 2, 1, 0], u64::MAX, [1, 11, 0]),
+    ((1, 0), [(3, 62, &MORE), (4, 61, &FOUR)], [3, 62, 1, 0], u64::MAX, [2, 11, 0]),
+    ((1, 0), [(3, 62, &MORE), (3, 62, &FOUR)], [3, 62, 1, 0], ALL, [2, 12, 0]),
+    ((1, 0), [(3, 62, &MORE), (3, 62, &FOUR)], [3, 62, 1, 0], LAST, [1, 13, 6]),
+];
+
+// Whatever the budget is, and the record stays.
+fn longer_refusals_agree(codes: &mut Codes) -> bool {
+    DECLINED.iter().all(|(plan, pair, [batch, n, block_length, radius], next, [sheet, number, place])| {
+        let [old, longer] = [given(&pair[0]), given(&pair[1])];
+        let record = Checkpoint { batch: *batch, n: *n, block_length: *block_length, radius: *radius, next: *next };
+        [0, 1, 2, 9, u32::MAX].into_iter().all(|budget| {
+            let (verdict, marks, calls) = fact_ends(budget);
+            let horn = LegReply { verdict, batch: pair[1].0, road: HORN, marks, calls, ..LegReply::default() };
+            let expected = if *sheet == 0 { horn } else { LegReply::about(*sheet, *number, *place) };
+            longer_to(codes, (*plan, budget), [&old, &longer], [record; 2], expected)
+        })
+    })
+}
+
+// Equal sheets are refused as one is by a leg. The refusals about the plan, the number of balls and a finished search name the longer one.
+fn equal_refusals_agree(codes: &mut Codes) -> bool {
+    REFUSALS.iter().all(|(plan, n, clauses, [batch, own_n, block_length, radius], next, number)| {
+        let bytes = written(*n, clauses);
+        let record = Checkpoint { batch: *batch, n: *own_n, block_length: *block_length, radius: *radius, next: *next };
+        let (verdict, marks, calls) = fact_ends(9);
+        let expected = match number {
+            0 => LegReply { verdict, batch: 2, road: HORN, marks, calls, ..LegReply::default() },
+            5 => LegReply::about(1, 5, 2),
+            11 if *plan == (*block_length, *radius) => LegReply::about(1, 11, 0),
+            _ => LegReply::about(2, *number, 0),
+        };
+        longer_to(codes, (*plan, 9), [&bytes, &bytes], [record; 2], expected)
+    })
+}
+
+// What applies to a leg under plan 1, 0 before it works balls, in order, each with its reply. A longer sheet of one clause is (1), which
+// is Horn; of two clauses of an old sheet the second is lacking; and a sheet that is refused is torn.
+fn applying(asked: ((u32, u32), u32), [old, longer]: [&Input; 2], record: &Checkpoint) -> [(bool, LegReply); 10] {
+    let (verdict, marks, calls) = fact_ends(asked.1);
+    let horn = LegReply { verdict, batch: longer.batch(), road: HORN, marks, calls, ..LegReply::default() };
+    let torn = |sheet, input: &Input| (input.sheet.is_err(), LegReply::about(sheet, 4, input.bytes.len() as u32 / 4));
+    let is_other = |input: &Input| [input.batch(), input.n()] != [record.batch, record.n];
+    let second = 4 + old.terms().first().map_or(0, |t| t.len() as u32);
+    [
+        (asked.0 != (1, 0), LegReply::about(2, 8, 0)),
+        torn(1, old),
+        torn(2, longer),
+        (longer.terms().len() == 1, horn),
+        (longer.n() >= 63, LegReply::about(2, 8, 0)),
+        ([record.block_length, record.radius] != [1, 0], LegReply::about(2, 11, 0)),
+        (is_other(old), LegReply::about(1, 11, 0)),
+        (is_other(longer), LegReply::about(2, 11, 0)),
+        (record.next >> longer.n().min(63) != 0, LegReply::about(2, 12, 0)),
+        (old.terms().len() == 2, LegReply::about(1, 13, second)),
+    ]
+}
+
+// The first of them, or else the leg by balls: the longer sheet has an empty clause, so that each of the 2^n balls is one call.
+fn longer_in_order(asked: ((u32, u32), u32), pair: [&Input; 2], record: &Checkpoint) -> (LegReply, u64) {
+    if let Some((_, reply)) = applying(asked, pair, record).into_iter().find(|(applies, _)| *applies) {
+        return (reply, record.next);
+    }
+    let left = (1u64 << pair[1].n()) - record.next;
+    let calls = left.min(asked.1 as u64);
+    let verdict = if calls == left { 2 } else { 3 };
+    let balls = LegReply { verdict, batch: pair[1].batch(), road: BALLS, calls: calls as u32, ..LegReply::default() };
+    (balls, record.next + calls)
+}
+
+// The sheet, another batch, one variable more, and torn.
+fn variants(n: u32, clauses: Clauses) -> [Input; 4] {
+    let mut torn = written(n, clauses);
+    torn.truncate(torn.len() - 4);
+    [given(&(2, n, clauses)), given(&(3, n, clauses)), given(&(2, n + 1, clauses)), torn].map(Input::new)
+}
+
+// Whatever applies at once, the first in order decides. All records near the right one are tried at the last ball but one, and at
+// others those that differ in one field, for a bad plan these alone.
+fn longer_orders_agree(codes: &mut Codes) -> bool {
+    [2, 62, 63].into_iter().all(|n: u32| {
+        let olds: [Clauses; 3] = [&[&[2, 1]], &[&[2, 1], &[2]], &[&[], &[1, -2]]];
+        let longers: [Clauses; 2] = [&FACT, &[&[], &[1, 2]]];
+        let all = |some: &[Clauses]| -> Vec<Input> { some.iter().flat_map(|clauses| variants(n, clauses)).collect() };
+        let [olds, longers] = [all(&olds), all(&longers)];
+        let count = 1u64 << n;
+        let right = Checkpoint { batch: 2, n, block_length: 1, radius: 0, next: count - 2 };
+        let others = [0, count - 1, count, u64::MAX].map(|next| {
+            let right = Checkpoint { next, ..right };
+            [right, Checkpoint { batch: 3, ..right }, Checkpoint { n: n + 1, ..right }, Checkpoint { radius: 1, ..right }]
+        });
+        let records = [others.concat(), near(right)].concat();
+        let pairs = || olds.iter().flat_map(|old| longers.iter().map(move |longer| [old, longer]));
+        [((1, 0), 1), ((1, 0), 2), ((1, 2), 2), ((13, 0), 0)].into_iter().all(|asked| {
+            let few = if is_plan(asked.0) { records.len() } else { 16 };
+            pairs().all(|pair| {
+                records[..few].iter().all(|record| {
+                    let (expected, next) = longer_in_order(asked, pair, record);
+                    longer_to(codes, asked, pair.map(|input| &input.bytes[..]), [*record, Checkpoint { next, ..*record }], expected)
+                })
+            })
+        })
+    })
+}
+
+// A Horn longer sheet is answered as by a run, whatever the old sheet and the record are.
+fn horn_longer_agree(codes: &mut Codes) -> bool {
+    ROUNDS.iter().all(|(n, clauses, (verdict, marks, rounds))| {
+        let longer = written(*n, clauses);
+        let olds = [longer.clone(), written(*n, &[]), written(2, &FOUR), given(&(3, 62, &PAIR))];
+        let right = Checkpoint { batch: 2, n: *n, block_length: 1, radius: 0, next: 0 };
+        let other = Checkpoint { batch: 3, n: 3, block_length: 2, radius: 9, next: 1 };
+        let records = [right, other, Checkpoint { batch: 3, ..right }, Checkpoint { next: u64::MAX, ..right }];
+        [0, rounds - 1, *rounds, u32::MAX].into_iter().all(|budget| {
+            let (verdict, marks) = if budget < *rounds { (3, [0; 4]) } else { (*verdict, *marks) };
+            let reply = LegReply { verdict, batch: 2, road: HORN, marks, calls: budget.min(*rounds), ..LegReply::default() };
+            let mut pairs = olds.iter().flat_map(|old| records.iter().map(move |record| (old, record)));
+            pairs.all(|(old, record)| longer_to(codes, ((1, 0), budget), [old, &longer], [*record; 2], reply))
+        })
+    })
+}
+
+// Each of a sheet's own refusals, in the old sheet and in the longer one; of two the old one's counts, and a bad plan goes before.
+fn refused_pairs_agree(codes: &mut Codes) -> bool {
+    let fine = [written(2, &FACT), written(2, &FOUR), written(2, &[])];
+    let right = Checkpoint { batch: 2, n: 2, block_length: 1, radius: 1, next: 0 };
+    let finished = Checkpoint { next: u64::MAX, ..right };
+    let mut says = |plan, pair: [&[u8]; 2], reply| {
+        [right, finished].into_iter().all(|record| longer_to(codes, (plan, 9), pair, [record; 2], reply))
+    };
+    refused_sheets().iter().all(|(bytes, number, place)| {
+        let [old, longer] = [1, 2].map(|sheet| LegReply::about(sheet, *number, *place));
+        fine.iter().all(|other| {
+            says((1, 1), [bytes, other], old)
+                && says((1, 1), [other, bytes], longer)
+                && says((1, 2), [bytes, other], LegReply::about(2, 8, 0))
+                && says((1, 2), [other, bytes], LegReply::about(2, 8, 0))
+        }) && refused_sheets().iter().all(|(other, _, _)| says((1, 1), [bytes, other], old))
+    })
+}
+
+// M is the longer sheet's. Its clauses make each ball one call.
+fn longer_counts_agree(codes: &mut Codes) -> bool {
+    COUNTED.iter().filter(|(plan, _, _)| plan.0 <= 9).all(|(plan, n, count)| {
+        let [old, longer] = [written(*n, &[&[2, 1]]), written(*n, &[&[], &[1, 2]])];
+        let pair: [&[u8]; 2] = [&old, &longer];
+        let mut refuses = |next: u64, number: u32| {
+            let record = Checkpoint { batch: 2, n: *n, block_length: plan.0, radius: plan.1, next };
+            longer_to(codes, (*plan, 1), pair, [record; 2], LegReply::about(2, number, 0))
+        };
+        match *count {
+            None => [0, (1 << 63) - 1, u64::MAX].into_iter().all(|next| refuses(next, 8)),
+            Some(count) => {
+                [count, count + 1, u64::MAX].into_iter().all(|next| refuses(next, 12))
+                    && longer_ends(codes, (*plan, 1), pair, [count - 1, count], (2, [0; 4], 1))
+            }
+        }
+    })
+}
+
+// The plan, which has two balls, the number of variables, the old and the longer clauses, the calls of the first ball on the old ones, how
+// the second ends on the longer ones, and the calls of a run on those.
+type Summed = ((u32, u32), u32, [Clauses; 2], u32, Ended, u32);
+
+const SUMMED: [Summed; 6] = [
+    // with (-1) the first ball has 1 not tried: a run of the longer sheet needs 2 calls there, where the old one took 3
+    ((2, 1), 2, [&FOUR, &[&[1, 2], &[1, -2], &[-1, 2], &[-1, -2], &[-1]]], 3, (2, [0; 4], 3), 5),
+    // with an empty clause each ball is one call
+    ((2, 1), 2, [&FOUR, &[&[1, 2], &[1, -2], &[-1, 2], &[-1, -2], &[]]], 3, (2, [0; 4], 1), 2),
+    // (1) changes the second ball alone, and the sum is the same
+    ((2, 1), 2, [&FOUR, &[&[1, 2], &[1, -2], &[-1, 2], &[-1, -2], &[1]]], 3, (2, [0; 4], 2), 5),
+    // a clause before the old ones is taken first: the legs make fewer calls than a run
+    ((4, 3), 4, [&[&[1, 2], &[-1], &[-2]], &[&[3, 4], &[1, 2], &[-1], &[-2]]], 1, (2, [0; 4], 5), 8),
+    // the same clauses in another order
+    ((3, 1), 3, [&[&[1], &[2], &[3], &[1, 2]], &[&[1, 2], &[1], &[2], &[3]]], 2, (1, [7, 0, 0, 0], 1), 4),
+    ((3, 1), 3, [&[&[1, 2], &[1], &[2], &[3]], &[&[1], &[2], &[3], &[1, 2]]], 3, (1, [7, 0, 0, 0], 1), 3),
+];
+
+// The ball that was emptied on the old sheet stays done. Verdict and marks are those of a run of the longer one, and the legs' calls
+// need not add up to its calls.
+fn sums_agree(codes: &mut Codes) -> bool {
+    SUMMED.iter().all(|(plan, n, pair, first, last, ran)| {
+        let [old, longer] = pair.map(|clauses| written(*n, clauses));
+        let run = Reply { verdict: last.0, batch: 2, road: BALLS, marks: last.1, calls: *ran, ..Reply::default() };
+        leg_ends(codes, (*plan, *first), &old, [0, 1], (3, [0; 4], *first))
+            && longer_ends(codes, (*plan, *first), [&old, &old], [0, 1], (3, [0; 4], *first))
+            && longer_ends(codes, (*plan, last.2), [&old, &longer], [1, 2], *last)
+            && library_run(*plan, u32::MAX, &longer) == run
     })
 }
 
@@ -3457,7 +4086,17 @@ fn few_balls(r: &mut Random, codes: &mut Codes, n: u32) -> (u32, u32) {
     }
 }
 
-// A plan with several balls that are not too many, if one is found. With many variables only long blocks have as few.
+// Each leg makes the code anew: the longer the blocks, the rarer the legs.
+fn rarity((b, _): (u32, u32)) -> u64 {
+    match b {
+        0..=8 => 1,
+        9 => 4,
+        _ => 40,
+    }
+}
+
+// A plan with several balls that are not too many, if one is found. With many variables only long blocks have as few; the longest are
+// rare, as above.
 fn several_balls(r: &mut Random, codes: &mut Codes, n: u32) -> (u32, u32) {
     for _ in 0..8 {
         let b = r.range(1, 8) as u32;
@@ -3466,7 +4105,10 @@ fn several_balls(r: &mut Random, codes: &mut Codes, n: u32) -> (u32, u32) {
             return plan;
         }
     }
-    few_balls(r, codes, n)
+    match few_balls(r, codes, n) {
+        (11.., _) => few_balls(r, codes, n),
+        plan => plan,
+    }
 }
 
 // The record of the sheet at any ball, often one of the first or of the last, and seldom past them. A quarter of the records is of
@@ -3518,6 +4160,155 @@ fn idle_leg(r: &mut Random, (b, s): (u32, u32), sheet: &Sheet) -> ((u32, u32), V
         5 => ((b, s), write(&Sheet { terms: horn(), ..*sheet })),
         _ => ((b, s), write(&Sheet { batch: sheet.batch ^ 1 << r.below(32), ..sheet.clone() })),
     }
+}
+
+// How the old sheet and the longer one of a pair go together.
+const PAIRS: [&str; 8] = [
+    "equal",
+    "clauses at the end",
+    "clauses anywhere, in any order",
+    "a clause dropped",
+    "a literal changed",
+    "clauses of another sheet",
+    "another batch or n",
+    "damaged",
+];
+const EQUAL: usize = 0;
+const DAMAGED: usize = 7;
+
+// In any order, with literals in any order, and some twice.
+fn mix(r: &mut Random, clauses: &mut Vec<Vec<(u32, bool)>>) {
+    for _ in 0..r.below(3) {
+        let count = clauses.len() as u64;
+        if count > 0 && count < 1024 {
+            clauses.push(clauses[r.below(count) as usize].clone());
+        }
+    }
+    clauses.iter_mut().for_each(|clause| shuffle(r, clause));
+    shuffle(r, clauses);
+}
+
+// Most of the clauses, or a half, mixed.
+fn some_of(r: &mut Random, sheet: &Sheet) -> Sheet {
+    let rare = [2, 8, 64][r.below(3) as usize];
+    let mut terms: Vec<_> = sheet.terms.iter().filter(|_| r.below(rare) != 0).cloned().collect();
+    mix(r, &mut terms);
+    Sheet { terms, ..*sheet }
+}
+
+// A clause of the old sheet leaves the other, however often it stands there.
+fn drop_clause(r: &mut Random, old: &Sheet, longer: &mut Sheet) {
+    if !old.terms.is_empty() {
+        let lost = literals(&old.terms[r.below(old.terms.len() as u64) as usize]);
+        longer.terms.retain(|t| literals(t) != lost);
+    }
+}
+
+// One literal, if there is any, gets another sign, or a variable that its clause does not name yet.
+fn change_literal(r: &mut Random, sheet: &mut Sheet) {
+    let some: Vec<usize> = (0..sheet.terms.len()).filter(|i| !sheet.terms[*i].is_empty()).collect();
+    if some.is_empty() {
+        return;
+    }
+    let clause = &mut sheet.terms[some[r.below(some.len() as u64) as usize]];
+    let at = r.below(clause.len() as u64) as usize;
+    let variable = r.range(1, sheet.n as u64) as u32;
+    if r.below(2) == 0 || clause.iter().any(|l| l.0 == variable) {
+        clause[at].1 ^= true;
+    } else {
+        clause[at].0 = variable;
+    }
+}
+
+// Clauses of any variables, as many as there were, but not more than a few.
+fn exchange(r: &mut Random, sheet: &mut Sheet) {
+    let all: Vec<u32> = (1..=sheet.n).collect();
+    sheet.terms.truncate(20);
+    for clause in &mut sheet.terms {
+        let length = r.below(all.len().min(8) as u64 + 1);
+        *clause = random_term(r, &all, length);
+    }
+}
+
+// The sheet after an old one, and how they go together. One that is refused comes before or after another.
+fn random_pair(r: &mut Random, input: &Input) -> (usize, [Vec<u8>; 2]) {
+    let kind = r.below(PAIRS.len() as u64) as usize;
+    let either = r.below(2) as usize;
+    let Ok(sheet) = &input.sheet else {
+        let mut pair = [input.bytes.clone(), random_bytes(r)];
+        pair.swap(0, either);
+        return (DAMAGED, pair);
+    };
+    let mut pair = [if kind < 2 { sheet.clone() } else { some_of(r, sheet) }, sheet.clone()];
+    match kind {
+        1 => pair[0].terms.truncate(r.below(sheet.terms.len() as u64 + 1) as usize),
+        3 => {
+            let [old, longer] = &mut pair;
+            drop_clause(r, old, longer);
+        }
+        4 => change_literal(r, &mut pair[either]),
+        5 => exchange(r, &mut pair[0]),
+        6 if r.below(2) == 0 => pair[either].batch ^= 1 << r.below(32),
+        6 => pair[either].n ^= 1 << r.below(7),
+        _ => {}
+    }
+    let mut bytes = pair.map(|sheet| write(&sheet));
+    if kind == DAMAGED {
+        damage(r, &mut bytes[either]);
+    }
+    (kind, bytes)
+}
+
+// A clause that these marks do not meet, not longer than the longest of the sheet.
+fn against(r: &mut Random, sheet: &Sheet, marks: u128) -> Vec<(u32, bool)> {
+    let all: Vec<u32> = (1..=sheet.n).collect();
+    let length = r.range(1, longest_term(sheet) as u64);
+    random_term(r, &all, length).iter().map(|l| (l.0, !has(marks, l.0))).collect()
+}
+
+// The sheet with up to three clauses of the pool, and with some against assignments that the leg would find, so that the search goes on.
+// For a half of the sheets all are mixed, and repeats are dropped.
+fn arrived(r: &mut Random, codes: &mut Codes, asked: ((u32, u32), u32), [pool, sheet]: [&Sheet; 2], record: &Checkpoint) -> Sheet {
+    let mut longer = sheet.clone();
+    for _ in 0..r.below(4) {
+        longer.terms.push(pool.terms[r.below(pool.terms.len() as u64) as usize].clone());
+    }
+    for _ in 0..r.below(8) {
+        let found = leg(codes, asked.0, asked.1, &write(&longer), &mut record.clone());
+        if found.verdict != 1 {
+            break;
+        }
+        longer.terms.push(against(r, pool, join(found.marks)));
+    }
+    if r.below(2) == 0 {
+        let mut seen = BTreeSet::new();
+        longer.terms.retain(|t| seen.insert(literals(t)));
+        mix(r, &mut longer.terms);
+    }
+    longer
+}
+
+// The plan and the sheets of a leg that leaves the record: a bad plan, another one, another batch or n of either sheet, the Horn clauses
+// of the longer one alone, an old clause dropped, and either sheet damaged.
+fn idle_pair(r: &mut Random, (b, s): (u32, u32), sheets: [&Sheet; 2]) -> ((u32, u32), [Vec<u8>; 2]) {
+    let mut plan = (b, s);
+    let mut pair = sheets.map(Sheet::clone);
+    let either = r.below(2) as usize;
+    let kind = r.below(7);
+    match kind {
+        0 => plan.1 = b + 1,
+        1 => plan = (b % 8 + 1, s.min(b % 8 + 1)),
+        2 => pair[either].batch ^= 1 << r.below(32),
+        3 if pair[either].n < 128 => pair[either].n += 1,
+        4 => pair[1].terms.retain(|t| positive(t).count() < 2),
+        5 if !pair[0].terms.is_empty() => drop_clause(r, sheets[0], &mut pair[1]),
+        _ => {
+            let mut bytes = pair.map(|sheet| write(&sheet));
+            bytes[either] = spoilt(r, sheets[either]);
+            return (plan, bytes);
+        }
+    }
+    (plan, pair.map(|sheet| write(&sheet)))
 }
 
 // Two terms of the sheet, and for an eighth of the sheets also the first, the last, and two past the last. A sheet that is
@@ -3655,25 +4446,95 @@ const SEARCHES: [&str; 3] = ["any budgets and idle legs in between", "enough for
 const ENOUGH: usize = 1;
 const GROWING: usize = 2;
 
-// What agreed of legs. Kinds are by road and verdict, large those for more than 32 variables, and numbers those of refusals. Later are
-// answers by balls from one that is not the first, and moved spent ones after at least one ball. Meant are clear answers whose marks
-// were tried, and none and spent ones that all assignments were tried for; budgets are those under larger budgets. Searches are by
-// kind and verdict, made the legs in them, idle those in between, and full the searches with as many legs as balls. Trials are the
-// searches whose end all assignments were tried for.
+// Answers of legs. Kinds are by road and verdict, and large those for more than 32 variables. Later are answers by balls from one that
+// is not the first, and moved spent ones after at least one ball. Meant are clear answers whose marks were tried, and none and spent
+// ones that all assignments were tried for.
 #[derive(Default)]
-struct Legs {
+struct Answers {
     kinds: [[u64; 4]; 3],
     large: [[u64; 4]; 3],
-    numbers: [u64; 13],
     later: u64,
     moved: u64,
     meant: [u64; 3],
+}
+
+impl Answers {
+    fn note(&mut self, input: &Input, [before, after]: [u64; 2], got: &LegReply, meant: bool) {
+        let [road, verdict] = [got.road as usize, got.verdict as usize];
+        self.kinds[road][verdict] += 1;
+        self.large[road][verdict] += (input.sheet.is_ok() && input.n() > 32) as u64;
+        self.later += (got.road == BALLS && before > 0) as u64;
+        self.moved += (verdict == 3 && after > before) as u64;
+        if meant {
+            self.meant[verdict - 1] += 1;
+        }
+    }
+
+    fn print(&self) {
+        let Answers { kinds, large, later, moved, .. } = self;
+        let by = |[_, clear, none, spent]: [u64; 4]| format!("clear {} none {} spent {}", clear, none, spent);
+        let all: u64 = kinds.iter().flatten().sum();
+        println!("{} legs: refused {}, by rounds {}, by balls {}", all, kinds[0][0], by(kinds[1]), by(kinds[2]));
+        println!("    with n above 32: by rounds {}, by balls {}", by(large[1]), by(large[2]));
+        println!("    from a ball that is not the first {} spent after some balls {}", later, moved);
+    }
+
+    fn print_meant(&self) {
+        let [clear, none, spent] = self.meant;
+        println!("clear marks tried {} all assignments tried, n up to 10: none {} spent {}", clear, none, spent);
+    }
+}
+
+// What agreed of legs. Numbers are those of refusals, and budgets answers under larger budgets. Searches are by kind and verdict, made
+// the legs in them, idle those in between, and full the searches with as many legs as balls. Trials are the searches whose end all
+// assignments were tried for.
+#[derive(Default)]
+struct Legs {
+    answers: Answers,
+    numbers: [u64; 13],
     budgets: u64,
     searches: [[u64; 2]; SEARCHES.len()],
     made: [u64; SEARCHES.len()],
     idle: u64,
     full: u64,
     trials: u64,
+}
+
+// What agreed of legs of two sheets. Numbers are those of refusals, by the sheet that they are about. Pairs are by kind: answered, refused
+// for a dropped clause, and for anything else. Alone are legs of the longer sheet alone that gave the same. Searches are those
+// during which clauses arrive, with any budgets and with enough for a ball in each leg, by verdict; made are their legs by balls, horn
+// those by rounds, and idle, full and trials are as above. Sums are the searches whose legs made fewer calls than a run of the
+// last sheet, as many, and more.
+#[derive(Default)]
+struct Longers {
+    answers: Answers,
+    numbers: [[u64; 14]; 3],
+    pairs: [[u64; 3]; PAIRS.len()],
+    alone: u64,
+    searches: [[u64; 2]; 2],
+    made: [u64; 2],
+    horn: u64,
+    idle: u64,
+    full: u64,
+    trials: u64,
+    sums: [u64; 3],
+}
+
+// A search during which clauses arrive: the sheets so far, of which the last one was searched last, the record, and the legs by balls
+// with their calls.
+struct Arriving {
+    sheets: Vec<Sheet>,
+    record: Checkpoint,
+    legs: u64,
+    calls: u64,
+}
+
+impl Arriving {
+    // The one that was searched last, or for a quarter of the legs any one.
+    fn old(&self, r: &mut Random) -> &Sheet {
+        let last = self.sheets.len() - 1;
+        &self.sheets[if r.below(4) == 0 { r.below(last as u64 + 1) as usize } else { last }]
+    }
 }
 
 // How many answers of each kind agreed, how often each saying applied, and how many disagreements. Kinds, large and parts are numbers of
@@ -3706,6 +4567,7 @@ struct Totals {
     holding: u64,
     splits: Splits,
     legs: Legs,
+    longers: Longers,
     failed: u64,
 }
 
@@ -3773,6 +4635,22 @@ impl Totals {
         self.check(horn_legs_agree(codes), || "a leg of a Horn sheet differs".into());
         self.check(first_legs_agree(codes), || "a leg from the start differs from a fixed run".into());
         self.check(refused_sheets_agree(codes), || "a leg of a sheet that is refused differs".into());
+    }
+
+    fn fixed_longer(&mut self, codes: &mut Codes) {
+        self.check(longer_legs_agree(codes), || "a fixed leg after an old sheet differs".into());
+        self.check(each_longer_agrees(codes), || "a leg after an old sheet from some ball with some budget differs".into());
+        self.check(kept_agree(codes), || "a leg of a sheet that has the old clauses differs".into());
+        self.check(dropped_agree(codes), || "the refusal of a sheet that lacks an old clause differs".into());
+        self.check(dropped_seats_agree(codes), || "the refusal for a clause at some place of 1,024 differs".into());
+        self.check(longest_agree(codes), || "a leg of the longest sheets differs".into());
+        self.check(longer_refusals_agree(codes), || "a refusal of a fixed pair of sheets differs".into());
+        self.check(equal_refusals_agree(codes), || "a refusal of two equal sheets differs".into());
+        self.check(longer_orders_agree(codes), || "a leg of two sheets where several refusals apply differs".into());
+        self.check(horn_longer_agree(codes), || "a leg of a longer sheet that is Horn differs".into());
+        self.check(refused_pairs_agree(codes), || "a leg of two sheets of which one is refused differs".into());
+        self.check(longer_counts_agree(codes), || "a leg of two sheets at the last ball, or past it, differs".into());
+        self.check(sums_agree(codes), || "two legs between which clauses arrive differ".into());
     }
 
     fn alike(&mut self, r: &mut Random, bytes: &[u8]) {
@@ -3982,6 +4860,7 @@ impl Totals {
         let mut fork = r.fork();
         self.split(&mut fork, stream, plan, bytes, &got);
         self.legs(&mut fork, codes, plan, bytes);
+        self.longer_legs(&mut fork.fork(), codes, plan, bytes);
         got
     }
 
@@ -4113,8 +4992,7 @@ impl Totals {
 
     // The sheet of a run: for a share of them a leg from any record, and for fewer a whole search in legs.
     fn legs(&mut self, r: &mut Random, codes: &mut Codes, plan: (u32, u32), bytes: &[u8]) {
-        // each leg makes the code anew: the longer the blocks, the rarer
-        let rare = if plan.0 > 9 { 10 } else { 1 };
+        let rare = rarity(plan);
         let [leg, search] = [r.below(3 * rare) == 0, r.below(16) == 0];
         if !leg && !search {
             return;
@@ -4139,7 +5017,9 @@ impl Totals {
         let mut record = before;
         let got = self.leg(codes, (plan, r.below(high + 1) as u32), input, &mut record);
         if got.decided() && r.below(2) == 0 {
-            self.leg_budgets(r, plan, input, [before, record], &got);
+            if rarity(plan) == 1 {
+                self.leg_budgets(r, plan, input, [before, record], &got);
+            }
             // one call fewer than needed
             self.leg(codes, (plan, got.calls - 1), input, &mut before.clone());
         }
@@ -4156,29 +5036,22 @@ impl Totals {
         let tell = || format!("leg {:?} {:?} sheet {:?}: expected {:?}, got {:?}", asked, before, input.bytes, due, came);
         self.check(due == came, tell);
         if due == came {
-            let [road, verdict] = [got.road as usize, got.verdict as usize];
-            self.legs.kinds[road][verdict] += 1;
-            self.legs.large[road][verdict] += (input.sheet.is_ok() && input.n() > 32) as u64;
+            let balls = [before.next, after.next];
+            let meant = self.leg_means(codes, plan, input, balls, &got);
+            self.legs.answers.note(input, balls, &got, meant);
             self.legs.numbers[got.number as usize] += 1;
-        }
-        if let (Ok(sheet), BALLS, true) = (&input.sheet, got.road, due == came) {
-            self.leg_means(&blocks_of(codes, plan, sheet.n), sheet, [before, after], &got);
         }
         got
     }
 
-    // From any record a clear has a model, and none and spent say that there is none in the balls gone through.
-    fn leg_means(&mut self, blocks: &[Block], sheet: &Sheet, [before, after]: [Checkpoint; 2], got: &LegReply) {
-        let moved = after.next > before.next;
-        self.legs.later += (before.next > 0) as u64;
-        self.legs.moved += (got.verdict == 3 && moved) as u64;
-        let fine = match got.verdict {
-            1 => sheet.terms.iter().all(|t| is_true(t, join(got.marks))),
-            _ if sheet.n > 10 || !moved => return,
-            _ => emptied(sheet, blocks, before.next..after.next),
+    // Whether the models of the sheet that was searched were held against the answer.
+    fn leg_means(&mut self, codes: &mut Codes, plan: (u32, u32), input: &Input, balls: [u64; 2], got: &LegReply) -> bool {
+        let (Ok(sheet), BALLS) = (&input.sheet, got.road) else {
+            return false;
         };
-        self.legs.meant[got.verdict as usize - 1] += 1;
-        self.check(fine, || format!("{:?}: {:?} from {:?} to {:?} is not what its models say", sheet, got, before, after));
+        let fine = meaning(&blocks_of(codes, plan, sheet.n), sheet, balls, got);
+        self.check(fine != Some(false), || format!("{:?}: {:?} in the balls {:?} is not what its models say", sheet, got, balls));
+        fine.is_some()
     }
 
     // Reply and record of a clear or none stay the same under every larger budget.
@@ -4291,6 +5164,174 @@ impl Totals {
             high <<= (record == before && high < 5000) as u32;
             held = all.min(held + r.below(3));
         }
+    }
+
+    // The sheet of a run with an old one: for a share of them a leg from any record, and for fewer a search during which clauses arrive.
+    fn longer_legs(&mut self, r: &mut Random, codes: &mut Codes, plan: (u32, u32), bytes: &[u8]) {
+        let [pair, search] = [r.below(8 * rarity(plan)) == 0, r.below(30) == 0];
+        if !pair && !search {
+            return;
+        }
+        let input = Input::new(bytes.to_vec());
+        if pair {
+            self.any_pair(r, codes, plan, &input);
+        }
+        let small = input.n() <= 12 || r.below(3) == 0;
+        if let (true, Ok(sheet)) = (search && small && input.terms().len() <= 300, &input.sheet) {
+            let mut pool = sheet.clone();
+            for_balls(r, &(1..=sheet.n).collect::<Vec<u32>>(), &mut pool);
+            let plan = several_balls(r, codes, sheet.n);
+            // where nothing may be flipped each ball is one call, whatever the clauses; and long blocks have other searches
+            if plan.1 > 0 && plan.0 <= 10 || r.below(6) == 0 {
+                self.arriving(r, codes, plan, &pool);
+            }
+        }
+    }
+
+    // The record is that of either sheet, or of none.
+    fn any_pair(&mut self, r: &mut Random, codes: &mut Codes, plan: (u32, u32), input: &Input) {
+        let (kind, pair) = random_pair(r, input);
+        let pair = pair.map(Input::new);
+        let count = if is_plan(plan) { count_balls(&blocks_of(codes, plan, pair[1].n())) } else { None };
+        let either = r.below(2) as usize;
+        let before = random_record(r, plan, &pair[either], count);
+        let high = [0, 1, 3, 30, 400][r.below(5) as usize];
+        let asked = (plan, r.below(high + 1) as u32);
+        let mut record = before;
+        let got = self.longer(codes, asked, [&pair[0], &pair[1]], &mut record);
+        let way = [0, 13].iter().position(|number| got.number == *number).unwrap_or(2);
+        self.longers.pairs[kind][way] += 1;
+        if got.number == 0 || kind == EQUAL {
+            self.alone(asked, &pair[1], [before, record], &got);
+        }
+        if got.decided() && r.below(4) == 0 {
+            // one call fewer than needed
+            self.longer(codes, (plan, got.calls - 1), [&pair[0], &pair[1]], &mut before.clone());
+        }
+    }
+
+    // The reply and the record are compared, and those of the library handed on.
+    fn longer(&mut self, codes: &mut Codes, asked: ((u32, u32), u32), pair: [&Input; 2], record: &mut Checkpoint) -> LegReply {
+        let (plan, budget) = asked;
+        let bytes = pair.map(|input| &input.bytes[..]);
+        let before = *record;
+        let mut after = before;
+        let expected = leg_longer(codes, plan, budget, bytes, &mut after);
+        let got = library_longer(plan, budget, bytes, record);
+        let [due, came] = [(expected, after), (got, *record)];
+        let tell = || format!("leg {:?} {:?} sheets {:?}: expected {:?}, got {:?}", asked, before, bytes, due, came);
+        self.check(due == came, tell);
+        if due == came {
+            let balls = [before.next, after.next];
+            let meant = self.leg_means(codes, plan, pair[1], balls, &got);
+            self.longers.answers.note(pair[1], balls, &got, meant);
+            self.longers.numbers[got.sheet as usize][got.number as usize] += 1;
+        }
+        got
+    }
+
+    // A leg of the longer sheet alone says and does the same; what it refuses is about its only sheet.
+    fn alone(&mut self, asked: ((u32, u32), u32), longer: &Input, records: [Checkpoint; 2], got: &LegReply) {
+        let mut record = records[0];
+        let alone = library_leg(asked.0, asked.1, &longer.bytes, &mut record);
+        let fine = alone == LegReply { sheet: got.sheet.min(1), ..*got } && record == records[1];
+        self.longers.alone += 1;
+        let tell = || format!("leg {:?} {:?} sheet {:?}: {:?}, after an old one {:?}", asked, records, longer.bytes, alone, got);
+        self.check(fine, tell);
+    }
+
+    // From the start until a leg by balls says clear or none, while clauses of the pool and others arrive.
+    fn arriving(&mut self, r: &mut Random, codes: &mut Codes, plan: (u32, u32), pool: &Sheet) {
+        let blocks = blocks_of(codes, plan, pool.n);
+        let (Some(count), k @ 1..) = (count_balls(&blocks), longest_term(pool)) else {
+            return;
+        };
+        let most = most_in_ball(k, blocks.iter().map(|b| b.1).sum());
+        let enough = Some(most as u64).filter(|_| most <= 5000 && r.below(2) == 0);
+        let mut search = Arriving { sheets: vec![some_of(r, pool)], record: Checkpoint::of(plan, pool, 0), legs: 0, calls: 0 };
+        let (mut high, failed) = (r.range(1, 16), self.failed);
+        for _ in 0..100 {
+            let before = search.record;
+            let budget = enough.map_or(r.below(high + 1), |least| least + r.below(2) * r.below(least));
+            let got = self.next_leg(r, codes, (plan, budget as u32), pool, &mut search);
+            let full = search.sheets.last().is_some_and(|sheet| sheet.terms.len() > 1000);
+            match (got.road, got.verdict) {
+                _ if self.failed > failed || full => return,
+                // no clause that arrives gives it a model
+                (HORN, 2) if r.below(2) == 0 => return,
+                (BALLS, 1 | 2) => return self.all_arrived(codes, (enough.is_some(), count), &mut search, &got),
+                _ => {}
+            }
+            // so that a ball that needs more than this comes to its turn
+            high <<= (search.record == before && high < 5000) as u32;
+        }
+    }
+
+    // An eighth of the legs brings the longer sheet alone.
+    fn next_leg(
+        &mut self,
+        r: &mut Random,
+        codes: &mut Codes,
+        asked: ((u32, u32), u32),
+        pool: &Sheet,
+        search: &mut Arriving,
+    ) -> LegReply {
+        let last = search.sheets.last().unwrap_or(pool);
+        let longer = arrived(r, codes, asked, [pool, last], &search.record);
+        let old = search.old(r).clone();
+        self.idle_pair(r, codes, asked.0, [&old, &longer], &mut search.record);
+        let pair = [&old, &longer].map(|sheet| Input::new(write(sheet)));
+        let got = match r.below(8) {
+            0 => self.leg(codes, asked, &pair[1], &mut search.record),
+            _ => self.longer(codes, asked, [&pair[0], &pair[1]], &mut search.record),
+        };
+        self.check(got.number == 0, || format!("leg {:?} of {:?} and then {:?}: {:?}", asked, old, longer, got));
+        search.sheets.push(longer);
+        search.legs += (got.road == BALLS) as u64;
+        search.calls += if got.road == BALLS { got.calls as u64 } else { 0 };
+        self.longers.horn += (got.road == HORN) as u64;
+        got
+    }
+
+    // A third of the times a leg that leaves the record.
+    fn idle_pair(&mut self, r: &mut Random, codes: &mut Codes, plan: (u32, u32), sheets: [&Sheet; 2], record: &mut Checkpoint) {
+        if r.below(3) != 0 {
+            return;
+        }
+        let before = *record;
+        let (plan, pair) = idle_pair(r, plan, sheets);
+        let pair = pair.map(Input::new);
+        let got = self.longer(codes, (plan, r.below(30) as u32), [&pair[0], &pair[1]], record);
+        self.longers.idle += 1;
+        let fine = *record == before && (got.number != 0 || got.road == HORN);
+        self.check(fine, || format!("leg {:?} between legs on {:?}: {:?} {:?}, before {:?}", plan, sheets, got, record, before));
+    }
+
+    // The last leg is right for its sheet: it has the verdict and the marks of a run, and those of all assignments. The calls need
+    // not add up to the run's. With enough for a ball in each leg there are not more legs than balls.
+    fn all_arrived(&mut self, codes: &mut Codes, (enough, count): (bool, u64), search: &mut Arriving, last: &LegReply) {
+        let Arriving { sheets, record, legs, calls } = search;
+        let (Some(sheet), plan) = (sheets.last(), (record.block_length, record.radius)) else {
+            return;
+        };
+        let input = Input::new(write(sheet));
+        let ran = library_run(plan, 20_000, &input.bytes);
+        let mut fine = !ran.decided() || (ran.verdict, ran.marks) == (last.verdict, last.marks);
+        if ran.decided() {
+            let way = (*calls).cmp(&(ran.calls as u64)) as i8 + 1;
+            self.longers.sums[way as usize] += 1;
+        }
+        if sheet.n <= 12 {
+            self.longers.trials += 1;
+            fine &= (last.verdict == 1) == models(sheet).next().is_some();
+        }
+        fine &= !enough || *legs <= count;
+        fine &= *record == Checkpoint::of(plan, sheet, count);
+        fine &= self.longer(codes, (plan, 9), [&input, &input], record) == LegReply::about(2, 12, 0);
+        self.longers.searches[enough as usize][(last.verdict == 2) as usize] += 1;
+        self.longers.made[enough as usize] += *legs;
+        self.longers.full += (enough && count > 1 && *legs == count) as u64;
+        self.check(fine, || format!("{:?}: {} legs, {} calls, then {:?}, by a run {:?}", sheet, legs, calls, last, ran));
     }
 
     // Rounds are bounded as calls are, and by the number of variables: each round but the last pays one.
@@ -4468,6 +5509,7 @@ impl Totals {
         println!("toggles: refused {} no such variable {} own sheet {} other sheet or numbers {}", refused, strange, own, other);
         self.print_splits();
         self.print_legs();
+        self.print_longer();
         println!("differential: {} passed, {} failed", inputs.saturating_sub(self.failed), self.failed);
     }
 
@@ -4500,20 +5542,37 @@ impl Totals {
     }
 
     fn print_legs(&self) {
-        let Legs { kinds, large, numbers, later, moved, meant, budgets, searches, made, idle, full, trials } = &self.legs;
+        let Legs { answers, numbers, budgets, searches, made, idle, full, trials } = &self.legs;
         println!("by legs:");
-        let by = |[_, clear, none, spent]: [u64; 4]| format!("clear {} none {} spent {}", clear, none, spent);
-        let all: u64 = kinds.iter().flatten().sum();
-        println!("{} legs: refused {}, by rounds {}, by balls {}", all, kinds[0][0], by(kinds[1]), by(kinds[2]));
-        println!("    with n above 32: by rounds {}, by balls {}", by(large[1]), by(large[2]));
-        println!("    from a ball that is not the first {} spent after some balls {}", later, moved);
+        answers.print();
         println!("refusals 1 to 8: {:?} another batch, n or plan {} finished {}", &numbers[1..9], numbers[11], numbers[12]);
-        println!("clear marks tried {} all assignments tried, n up to 10: none {} spent {}", meant[0], meant[1], meant[2]);
+        answers.print_meant();
         println!("the same with larger budgets {}", budgets);
         for (i, name) in SEARCHES.iter().enumerate() {
             println!("searches with {}: clear {} none {} legs {}", name, searches[i][0], searches[i][1], made[i]);
         }
         println!("    idle legs {} as many legs as balls {} all assignments tried, n up to 12: {}", idle, full, trials);
+    }
+
+    fn print_longer(&self) {
+        let Longers { answers, numbers, pairs, alone, searches, made, horn, idle, full, trials, sums } = &self.longers;
+        let [_, old, longer] = numbers;
+        println!("by legs of an old and a longer sheet:");
+        answers.print();
+        println!("refusals 1 to 7 of the old sheet: {:?} 1 to 8 of the longer one: {:?}", &old[1..8], &longer[1..9]);
+        println!("another batch or n of the old sheet {} another plan, batch or n of the longer one {}", old[11], longer[11]);
+        println!("finished {} a clause dropped {}", longer[12], old[13]);
+        for (name, [answered, dropped, refused]) in PAIRS.iter().zip(pairs) {
+            println!("    {}: answered {} a clause dropped {} refused otherwise {}", name, answered, dropped, refused);
+        }
+        answers.print_meant();
+        println!("the same as a leg of the longer sheet alone {}", alone);
+        for (i, name) in ["any budgets", SEARCHES[ENOUGH]].iter().enumerate() {
+            println!("searches while clauses arrive, {}: clear {} none {} legs {}", name, searches[i][0], searches[i][1], made[i]);
+        }
+        println!("    legs by rounds {} idle {} as many legs as balls {}", horn, idle, full);
+        println!("    all assignments tried, n up to 12: {}", trials);
+        println!("    as a run of the last sheet, with fewer calls {} as many {} more {}", sums[0], sums[1], sums[2]);
     }
 }
 
@@ -4530,6 +5589,7 @@ fn main() {
     let mut totals = Totals::default();
     totals.fixed(&mut codes);
     totals.fixed_legs(&mut codes);
+    totals.fixed_longer(&mut codes);
     totals.small(&mut rounds, &mut codes);
     for _ in 0..inputs {
         let bytes = random_bytes(&mut r);

@@ -8,10 +8,17 @@
    batch 7 ball spent calls 4100 marks 0 0 0 0
    A clear or none is parked too, and printed again at each later call. A refused or Horn sheet is answered and not parked.
 
+   Further clauses may come while the search is parked: FILE may then bring another sheet, where every clause of the parked one stands.
+   The first leg of that call is on both sheets: the balls that are done stay done, the others are worked on the sheet in FILE, and
+   that is parked with the leg in place of the old one. Until then the file stays as it was. The calls of all legs need not be a run's
+   any more. The refusal of a leg on two sheets says which it is about, 1 the parked one or 2 that in FILE:
+   refused 13 place 7 sheet 1
+   A search that has ended takes no further clauses (refusal 12): its verdict is that of the sheet parked with it.
+
    What is parked, numbers low byte first: PARK, version (32 bits each); batch, n, block length, radius (32 each) and next ball (64);
    legs, calls (64 each); verdict, four words of marks, length of the sheet (32 each); the sheet; FNV-1a of all that (64). The verdict
-   is spent until there is one. A none holds only for a record that came through legs on this sheet, which is why the sheet is
-   kept with it. One host at a time may work on a file. */
+   is spent until there is one. A none holds only for a record that came through legs on this sheet, or on sheets whose clauses all
+   stand in it, which is why the sheet is kept with it. One host at a time may work on a file. */
 #define _POSIX_C_SOURCE 200809L
 #include <errno.h>
 #include <fcntl.h>
@@ -27,6 +34,13 @@ struct search {
     struct checkpoint record;
     uint64_t legs, calls;
     uint32_t verdict, marks[ENGINE_WORDS];
+    size_t length;
+    uint8_t sheet[SHEET_ROOM];
+};
+
+/* A sheet as a file has it. */
+struct brought {
+    const char *name;
     size_t length;
     uint8_t sheet[SHEET_ROOM];
 };
@@ -126,31 +140,36 @@ static int park(const struct search *s, const char *name)
     return 0;
 }
 
-/* A search of the sheet from its start. A header that is no header is refused by the leg. */
-static void begin(struct search *s, uint32_t block_length, uint32_t radius, const uint8_t *sheet, size_t length)
+/* The sheet is the search's from here on. */
+static void take_sheet(struct search *s, const struct brought *file)
 {
-    const uint8_t *at = sheet;
+    s->length = file->length;
+    memcpy(s->sheet, file->sheet, file->length);
+}
+
+/* A search of the sheet from its start. A header that is no header is refused by the leg. */
+static void begin(struct search *s, uint32_t block_length, uint32_t radius, const struct brought *file)
+{
+    const uint8_t *at = file->sheet;
     memset(s, 0, sizeof *s);
     s->verdict = ENGINE_SPENT;
     s->record.block_length = block_length;
     s->record.radius = radius;
-    s->length = length;
-    memcpy(s->sheet, sheet, length);
-    if (length < 12) return;
+    take_sheet(s, file);
+    if (s->length < 12) return;
     s->record.batch = (uint32_t)(take(&at, 4) << 16);
     s->record.batch |= take(&at, 4) & 0xffff;
     s->record.n = take(&at, 4) & 0x3fffffff;
 }
 
-/* The parked search, where it is one of this sheet and plan; anything else is told and gives 0. */
-static int resume(struct search *s, uint32_t block_length, uint32_t radius, const uint8_t *sheet, size_t length, const char *name)
+/* The parked search, where it is one by this plan; anything else is told and gives 0. */
+static int resume(struct search *s, uint32_t block_length, uint32_t radius, const char *name)
 {
     static uint8_t bytes[FRONT + SHEET_LIMIT + CHECKSUM + 1];
     const char *wrong = NULL;
     size_t count;
     if (!contents(name, bytes, sizeof bytes, &count)) return 0;
     if (!read_search(s, bytes, count)) wrong = "is damaged, or no parked search";
-    else if (s->length != length || memcmp(s->sheet, sheet, length) != 0) wrong = "is the search of another sheet";
     else if (s->record.block_length != block_length || s->record.radius != radius) wrong = "is a search by another plan";
     if (wrong) fprintf(stderr, "legs: %s %s\n", name, wrong);
     return !wrong;
@@ -187,15 +206,59 @@ static int finish_leg(struct search *s, const struct leg_reply *r, const char *n
     return printed();
 }
 
-/* Works at most so many legs; the answer is the exit status. */
-static int work(struct search *s, uint32_t budget, uint64_t most, const char *name)
+/* One leg: on the search's sheet alone, or on that and a longer one. */
+static struct leg_reply next_leg(struct search *s, uint32_t budget, const struct brought *longer)
 {
+    uint32_t size = s->record.block_length, radius = s->record.radius;
+    if (!longer) return leg(size, radius, budget, s->sheet, s->length, &s->record);
+    return leg_longer(size, radius, budget, s->sheet, s->length, longer->sheet, longer->length, &s->record);
+}
+
+/* Tells a clause of an accepted sheet, by its first word, as tools/sheet writes it. */
+static void tell_clause(const uint8_t *sheet, uint32_t word)
+{
+    const uint8_t *at = sheet + 4 * (size_t)word;
+    uint32_t length = take(&at, 4) & 0x3fffffff;
+    fprintf(stderr, "(");
+    for (uint32_t i = 0; i < length; i++) {
+        uint32_t literal = (uint32_t)take(&at, 4);
+        fprintf(stderr, "%s%s%u", i ? " " : "", literal & 1 ? "-" : "", literal >> 1);
+    }
+    fprintf(stderr, ")\n");
+}
+
+/* Prints the refusal of a leg. Of one on two sheets it says which, and where the two do not fit together it tells why. */
+static void refuse(const struct search *s, const struct leg_reply *r, const struct brought *longer, const char *name)
+{
+    if (!longer) {
+        print_refusal(r->number, r->place);
+        return;
+    }
+    printf("refused %u place %u sheet %u\n", r->number, r->place, r->sheet);
+    if (r->number == 11 && r->sheet == 2)
+        fprintf(stderr, "legs: %s has another batch number or n than the search in %s\n", longer->name, name);
+    if (r->number == 12)
+        fprintf(stderr, "legs: the search in %s has ended, and its verdict is that of the sheet parked with it.\n"
+                        "The sheet in %s has further clauses, or others: its search begins anew, with another PARKED\n",
+                name, longer->name);
+    if (r->number == 13) {
+        fprintf(stderr, "legs: %s lacks a clause of the parked sheet: the one whose first word is word %u there, ", longer->name,
+                r->place);
+        tell_clause(s->sheet, r->place);
+    }
+}
+
+/* Works at most so many legs; the answer is the exit status. Where the file brings another sheet than the parked one, the first leg is
+   on both, whatever the verdict on the parked one, and leaves the search with the one brought. */
+static int work(struct search *s, const struct brought *file, uint32_t budget, uint64_t most, const char *name)
+{
+    const struct brought *longer = s->length == file->length && memcmp(s->sheet, file->sheet, s->length) == 0 ? NULL : file;
     uint64_t total = 0;
-    for (uint64_t leg_number = 0; leg_number < most && s->verdict == ENGINE_SPENT; leg_number++) {
+    for (uint64_t leg_number = 0; leg_number < most && (longer || s->verdict == ENGINE_SPENT); leg_number++) {
         uint64_t from = s->record.next;
-        struct leg_reply r = leg(s->record.block_length, s->record.radius, budget, s->sheet, s->length, &s->record);
+        struct leg_reply r = next_leg(s, budget, longer);
         if (r.verdict == ENGINE_REFUSED) {
-            print_refusal(r.number, r.place);
+            refuse(s, &r, longer, name);
             return 0;
         }
         if (r.road == ENGINE_HORN) {
@@ -208,6 +271,8 @@ static int work(struct search *s, uint32_t budget, uint64_t most, const char *na
                     (unsigned long long)from, budget);
             return 2;
         }
+        if (longer) take_sheet(s, longer);
+        longer = NULL;
         if (!total) total = balls(&s->record);
         if (!finish_leg(s, &r, name, total)) return 2;
     }
@@ -218,12 +283,12 @@ static int work(struct search *s, uint32_t budget, uint64_t most, const char *na
 int main(int argc, char **argv)
 {
     static struct search search;
-    static uint8_t sheet[SHEET_ROOM];
+    static struct brought file;
     uint32_t size, radius, budget, legs = 0;
-    size_t length;
     if (argc != 6 && argc != 7) {
         fprintf(stderr, "usage: legs BLOCK_LENGTH RADIUS BUDGET FILE PARKED [LEGS]\n"
-                        "the search is parked in PARKED after each leg of BUDGET calls, LEGS legs at most, or until there is a verdict\n");
+                        "the search is parked in PARKED after each leg of BUDGET calls, LEGS legs at most, or until there is a verdict;\n"
+                        "meanwhile FILE may get further clauses\n");
         return 2;
     }
     if (!number("BLOCK_LENGTH", argv[1], &size) || !number("RADIUS", argv[2], &radius) || !number("BUDGET", argv[3], &budget)) return 2;
@@ -232,9 +297,10 @@ int main(int argc, char **argv)
         fprintf(stderr, "legs: LEGS is 0, and must be 1 or more\n");
         return 2;
     }
-    if (!contents(argv[4], sheet, sizeof sheet, &length)) return 2;
-    if (access(argv[5], F_OK) != 0 && errno == ENOENT) begin(&search, size, radius, sheet, length);
-    else if (!resume(&search, size, radius, sheet, length, argv[5])) return 2;
-    int status = work(&search, budget, argc == 7 ? legs : UINT64_MAX, argv[5]);
+    file.name = argv[4];
+    if (!contents(file.name, file.sheet, sizeof file.sheet, &file.length)) return 2;
+    if (access(argv[5], F_OK) != 0 && errno == ENOENT) begin(&search, size, radius, &file);
+    else if (!resume(&search, size, radius, argv[5])) return 2;
+    int status = work(&search, &file, budget, argc == 7 ? legs : UINT64_MAX, argv[5]);
     return printed() ? status : 2;
 }

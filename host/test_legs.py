@@ -1,9 +1,10 @@
 #!/usr/bin/env python3
 """Tests of host/legs.c, which host/test.sh builds: the lines of progress and the verdict beside those of a run (host/clear.c), under
 budgets from the least that goes on to the largest; kills at random moments, between parking and printing and in the middle of
-writing; parked files that are damaged, or of another sheet or plan; Horn and refused sheets, and bad arguments. The parked file is read
-and written here by what the head of host/legs.c says of it. Most files are in memory where there is /dev/shm, since each leg
-waits for its file to reach the disk."""
+writing; sheets that get further clauses while they are parked, also under kills, and those that do not fit the parked one; parked
+files that are damaged, or of another plan; Horn and refused sheets, and bad arguments. The parked file is read and written here by
+what the head of host/legs.c says of it. Most files are in memory where there is /dev/shm, since each leg waits for its file to reach
+the disk."""
 import collections
 import importlib.machinery
 import importlib.util
@@ -85,6 +86,25 @@ def far(n):
     return [[v if last - 9 < v <= last or v < last and (v - 1) % 9 < 4 else -v] for v in range(1, n + 1)] + [[-6, 7, 8]]
 
 
+def arranged(chance, how, clauses, more):
+    """The clauses of a longer sheet."""
+    clauses = list(clauses)
+    if how == 'appended':
+        return clauses + more
+    if how == 'inserted':
+        for clause in more:
+            clauses.insert(chance.randint(0, len(clauses)), clause)
+        return clauses
+    clauses += more
+    if how == 'repeated':
+        clauses += chance.sample(clauses, min(len(clauses), 9, sheet.MAX_CLAUSES - len(clauses)))
+    if how == 'turned':
+        return [chance.sample(clause, len(clause)) for clause in clauses]
+    chance.shuffle(clauses)
+    return clauses
+
+
+ARRANGEMENTS = 'appended', 'inserted', 'shuffled', 'turned', 'repeated'
 FOUR = [[1, 2], [1, -2], [-1, 2], [-1, -2]]
 CHANCE = random.Random(11)
 # the plan, batch, n and clauses of a sheet that is decided by balls, and a budget that is tried first
@@ -108,6 +128,35 @@ SEARCHES = {
 LEAST = {}
 
 
+def apart(clauses, *later):
+    """The clauses without those that come later, and then these, one at a time."""
+    return [[clause for clause in clauses if clause not in later]] + [[clause] for clause in later]
+
+
+def longest_in_steps(chance):
+    """Up to 1,024 clauses. What the clause that comes last would let through, of those over the variables 1 to 8, is not in the first 32
+    balls, since 9 to 12 are paid."""
+    core, *others = eights(chance, 12, 1020), [9], [10], [11], [12]
+    last = next(clause for clause in core if sorted(map(abs, clause)) == list(range(1, 9)))
+    core = [clause for clause in core if sorted(clause) != sorted(last)]
+    return [others + core[:900], core[900:], [last] * (1020 - len(core))]
+
+
+GROWTH = random.Random(12)
+# the plan, batch and n, a budget that gets each sheet past every ball, the clauses of the first sheet, and those that come later, step by
+# step; where a sheet but the last has a model, it is in none of the first balls
+GROWTHS = {
+    'four clauses': ((2, 1), (4294967295, 2), 3, [FOUR[:3], FOUR[3:]]),
+    'one call a ball': ((4, 0), (1, 10), 1, [[[9], [10]] + clauses_of(GROWTH, 10, 20, 3), *(clauses_of(GROWTH, 10, 4, 3) for _ in range(5)),
+                                             [], [[-9, -10]]]),
+    'a short last block': ((5, 2), (2, 13), 200, [clauses_of(GROWTH, 13, 70, 3), *(clauses_of(GROWTH, 13, 8, 3) for _ in range(3))]),
+    'none of 1024 balls': ((4, 1), (3, 20), 364, [clauses_of(GROWTH, 20, 120, 3), *(clauses_of(GROWTH, 20, 6, 3) for _ in range(5))]),
+    'the longest sheet': ((8, 1), (6, 12), 73, longest_in_steps(GROWTH)),
+    'clear with n 99': ((9, 4), (7, 99), 200, apart(far(99), [1], [11], [-5], [-18], [98])),
+    'none with n 99': ((9, 4), (65536, 99), 200, apart(far(99) + [[5, 6, -7], [2, -99]], [5, 6, -7], [3], [2, -99]) + [[[-98]]]),
+}
+
+
 class Host(unittest.TestCase):
     def setUp(self):
         self.place = tempfile.mkdtemp(dir=MEMORY)
@@ -122,13 +171,33 @@ class Host(unittest.TestCase):
         self.forget()
         self.name = name
         self.plan, formula, self.first = SEARCHES[name]
-        self.data = sheet.sheet_of(*formula)
-        self.put(self.file, self.data)
-        n, b, s = formula[1], *self.plan
+        self.bring(*formula)
+
+    def bring(self, batch, n, clauses):
+        """A sheet in the file, and what is known of it by the plan."""
+        self.data = self.put_sheet(batch, n, clauses)
+        b, s = self.plan
         self.total = sheet.CODE_SIZES[b][s] ** (n // b) * (sheet.CODE_SIZES[n % b][min(s, n % b)] if n % b else 1)
         self.line = self.run_line(*self.plan, LARGEST)
         words = self.line.split()
         self.calls, self.verdict = int(words[5]), VERDICTS[words[3]]
+
+    def steps(self, name, chance):
+        """A growth of the table: its plan, and the clauses of its sheets in turn, each arranged in some way; the last one is brought, for
+        what is known of it."""
+        self.forget()
+        self.plan, self.head, self.enough, (first, *later) = GROWTHS[name]
+        clauses, steps = first, [first]
+        for more in later:
+            steps.append(arranged(chance, chance.choice(ARRANGEMENTS), clauses, more))
+            clauses = clauses + more
+        self.bring(*self.head, steps[-1])
+        return steps
+
+    def put_sheet(self, batch, n, clauses):
+        data = sheet.sheet_of(batch, n, clauses)
+        self.put(self.file, data)
+        return data
 
     def put(self, name, data):
         with open(name, 'wb') as file:
@@ -321,6 +390,308 @@ class Progress(Host):
         self.is_finished(self.legs(least)[1], least, *came)
 
 
+class Growing(Host):
+    """Sheets that get further clauses while their search is parked."""
+    # how often no leg got past a ball
+    stuck = 0
+
+    def goes_on(self, budget, *legs):
+        """A call with the sheet brought. It says and parks what a search of this sheet alone does that had come as far; where no leg gets
+        past a ball the file is left."""
+        before, other = bytes_at(self.parked), self.at('other')
+        if before:
+            self.put(other, written(read(before)._replace(sheet=self.data)))
+        expected = self.ran(self.arguments(budget, *legs, parked=other))
+        self.assertEqual(self.legs(budget, *legs), expected)
+        self.assertEqual(bytes_at(self.parked), bytes_at(other) if expected[1] else before)
+        if os.path.exists(other):
+            os.remove(other)
+        self.assertFalse(os.path.exists(self.parked + '.new'))
+        return expected
+
+    def step(self, clauses, came, budget, *legs):
+        """Some legs with the sheet of these clauses, with the least of budget, 2 x budget + 1, ... that gets past a ball."""
+        self.bring(*self.head, clauses)
+        while True:
+            status, lines, told = self.goes_on(budget, *legs)
+            if status == 0:
+                break
+            self.is_stuck(status, told)
+            self.stuck += 1
+            came = self.check_progress(lines, budget, *came)
+            budget = 2 * budget + 1
+        self.assertEqual(told, '')
+        came = self.check_progress(lines[:-1], budget, *came)
+        if came[1] < self.total:
+            self.assertEqual(lines[-1], 'batch %d ball spent calls %d marks 0 0 0 0' % (self.head[0], came[2]))
+            self.is_parked(*came)
+        else:
+            self.is_right(lines[-1], *came)
+        return came
+
+    def is_right(self, line, legs, balls, calls):
+        """The verdict and the marks are those of a run of the last sheet; the calls are the legs'."""
+        words = self.line.split()
+        self.assertEqual(line, ' '.join(words[:5] + [str(calls)] + words[6:]))
+        _, n, clauses = sheet.formula_in(self.data)
+        if self.verdict == CLEAR:
+            sheet.literals_met(n, clauses, sheet.answer_of(line)[-1])
+        self.is_parked(legs, balls, calls, self.verdict)
+        self.assertEqual(self.legs(0), (0, [line], ''))
+
+    def test_in_steps(self):
+        for name in GROWTHS:
+            self.stuck = 0
+            for round_number in range(3):
+                with self.subTest(name, round=round_number):
+                    chance, came = random.Random('%s %d' % (name, round_number)), (0, 0, 0)
+                    steps = self.steps(name, chance)
+                    part = self.calls // (4 * len(steps))
+                    for clauses in steps[:-1]:
+                        came = self.step(clauses, came, chance.choice((0, part // 2, part)), chance.randint(1, 1 + (self.total > 8)))
+                        self.assertLess(came[1], self.total)
+                    came = self.step(steps[-1], came, chance.choice((part // 2, part, 3 * part, LARGEST)))
+                    self.assertEqual(came[1], self.total)
+            self.assertGreater(self.stuck, 0, name)
+
+    def test_all_bytes(self):
+        # up to the longest sheet that there can be, of which only the last clause is new
+        self.plan, self.head, chance = (8, 1), (6, 12), random.Random(9)
+        clauses = eights(chance, 12, 1023)
+        came = self.step(clauses, (0, 0, 0), 73, 3)
+        clauses.insert(chance.randint(0, 1023), [12, -11, 10, -9, 8, -7, 6, -5])
+        came = self.step(clauses, came, 73, 1)
+        self.assertEqual(len(bytes_at(self.parked)), 80 + 36876)
+        self.step(clauses, came, 1000)
+
+    def test_each_arrangement(self):
+        # one step of each kind, also with no clause more than there were
+        chance = random.Random(4)
+        self.plan, self.head, _, (first, *later) = GROWTHS['a short last block']
+        for how in ARRANGEMENTS:
+            for more in ([], later[0], [first[0]], [first[0][::-1], []]):
+                self.forget()
+                came = self.step(first, (0, 0, 0), 0, 1)
+                came = self.step(arranged(chance, how, first, more), came, 0, 1)
+                self.step(arranged(chance, how, first, more), came, LARGEST)
+
+    def test_repeats_left_out(self):
+        # clauses are compared as sets: what stands twice need stand only once
+        self.plan, self.head = (2, 1), (3, 2)
+        came = self.step(FOUR[:3] + [[2, 1], [1, 2], [-2, 1]], (0, 0, 0), 3, 1)
+        came = self.step([[-1, -2], [2, 1], [2, -1], [1, -2]], came, 3)
+        self.assertEqual(came, (2, 2, 6))
+
+    def test_four_clauses(self):
+        # 1 and 2 paid meets the first three, and is not in ball 0; with the fourth there is no model
+        self.plan, self.head = (2, 1), (5, 2)
+        self.bring(*self.head, FOUR[:3])
+        old = self.data
+        spent = ['leg 1 balls 1 of 2 calls 3 so far 3', 'batch 5 ball spent calls 3 marks 0 0 0 0']
+        for clauses, verdict, end in ((FOUR, NONE, ['leg 2 balls 2 of 2 calls 3 so far 6', 'batch 5 ball none calls 6 marks 0 0 0 0']),
+                                      ([[2, -1], [1, 2], [-2, 1]], CLEAR, ['leg 2 balls 2 of 2 calls 2 so far 5',
+                                                                           'batch 5 ball clear calls 5 marks 3 0 0 0'])):
+            self.forget()
+            self.put(self.file, old)
+            self.assertEqual(self.legs(3, 1), (0, spent, ''))
+            self.assertEqual(read(bytes_at(self.parked)).sheet, old)
+            self.bring(*self.head, clauses)
+            self.assertEqual(self.legs(3), (0, end, ''))
+            self.is_parked(2, 2, int(end[1].split()[5]), verdict)
+            self.assertEqual(self.legs(3), (0, end[1:], ''))
+
+    def test_one_call_a_ball(self):
+        # whatever the sheet, every ball has one call: the legs' calls add up to the balls, and none is searched again
+        for budget in (1, 7, 90, 100):
+            steps, lines = self.steps('one call a ball', random.Random(budget)), []
+            for clauses in steps:
+                self.put_sheet(*self.head, clauses)
+                status, said, told = self.legs(budget, *((1,) if clauses is not steps[-1] else ()))
+                self.assertEqual((status, told), (0, ''))
+                lines += said[:-1]
+            self.assertEqual(lines, ['leg %d balls %d of 1024 calls %d so far %d' % (at // budget + 1, end, end - at, end)
+                                     for at in range(0, 1024, budget) for end in [min(1024, at + budget)]])
+            self.assertEqual(said[-1], 'batch 1 ball none calls 1024 marks 0 0 0 0')
+
+    def test_budget_too_small(self):
+        # the file is left with the old sheet, which then goes on, or with a larger budget the new one
+        for name in ('a short last block', 'none of 1024 balls', 'four clauses'):
+            for onward in (0, -1):
+                steps = self.steps(name, random.Random(6))
+                came = self.step(steps[0], (0, 0, 0), 0, 1)
+                old = bytes_at(self.parked)
+                self.bring(*self.head, steps[-1])
+                for budget in (0, 1, 2):
+                    for legs in ((), (1,), (5,)):
+                        self.assertIn('BUDGET', self.declines(self.arguments(budget, *legs)))
+                self.assertEqual(bytes_at(self.parked), old)
+                self.assertEqual(sorted(os.listdir(self.place)), ['parked', 'sheet'])
+                self.assertEqual(self.step(steps[onward], came, LARGEST)[0], 2)
+
+    def test_many_balls(self):
+        # a search that has come a long way: its numbers need more than 32 bits, and are kept
+        self.plan, clauses = (1, 0), [[61, 62], [1]]
+        self.put_sheet(3, 62, clauses)
+        self.legs(1000, 1)
+        p = read(bytes_at(self.parked))
+        self.put(self.parked, written(p._replace(next=2 ** 62 - 5, legs=2 ** 40, calls=2 ** 41)))
+        longer = self.put_sheet(3, 62, clauses + [[-1]])
+        of = 'of 4611686018427387904'
+        self.assertEqual(self.legs(3, 1), (0, ['leg %d balls 4611686018427387902 %s calls 3 so far %d' % (2 ** 40 + 1, of, 2 ** 41 + 3),
+                                               'batch 3 ball spent calls %d marks 0 0 0 0' % (2 ** 41 + 3)], ''))
+        self.assertEqual(read(bytes_at(self.parked)), p._replace(next=2 ** 62 - 2, legs=2 ** 40 + 1, calls=2 ** 41 + 3, sheet=longer))
+        self.assertEqual(self.legs(3), (0, ['leg %d balls 4611686018427387904 %s calls 2 so far %d' % (2 ** 40 + 2, of, 2 ** 41 + 5),
+                                            'batch 3 ball none calls %d marks 0 0 0 0' % (2 ** 41 + 5)], ''))
+
+
+class TwoSheets(Host):
+    """Sheets that do not go with the parked one: answered, and the parked file left."""
+
+    def setUp(self):
+        super().setUp()
+        self.plan, self.head, self.clauses = (5, 2), (70000, 13), clauses_of(random.Random(7), 13, 80, 3)
+        self.bring(*self.head, self.clauses)
+        self.assertEqual(self.legs(200, 1)[0], 0)
+        self.going = bytes_at(self.parked)
+        self.assertEqual(self.legs(LARGEST)[0], 0)
+        self.ended = bytes_at(self.parked)
+        self.assertEqual([read(data).verdict for data in (self.going, self.ended)], [SPENT, NONE])
+
+    def answered(self, parked, line, *told, budgets=(0, 1, LARGEST)):
+        """This line alone, these words told, or nothing, and the parked file not touched."""
+        self.put(self.parked, parked)
+        before = os.stat(self.parked)
+        for budget in budgets:
+            for legs in ((), (1,), (5,)):
+                status, lines, said = self.legs(budget, *legs)
+                self.assertEqual((status, lines), (0, [line]))
+                self.assertEqual(said == '', told == ())
+                for word in told:
+                    self.assertIn(word, said)
+        after = os.stat(self.parked)
+        self.assertEqual((after.st_ino, after.st_mtime_ns, bytes_at(self.parked)), (before.st_ino, before.st_mtime_ns, parked))
+        self.assertEqual(sorted(os.listdir(self.place)), ['parked', 'sheet'])
+
+    def lacks(self, clauses, at):
+        """Refused for the parked clause at this place, counted from 0."""
+        self.put_sheet(*self.head, clauses)
+        word, text = 3 + sum(1 + len(clause) for clause in self.clauses[:at]), sheet.text_of(self.clauses[at])
+        self.answered(self.going, 'refused 13 place %d sheet 1' % word, self.file, 'lacks', 'word %d there, %s\n' % (word, text),
+                      budgets=(0, 500))
+
+    def test_dropped(self):
+        chance, all_of = random.Random(8), self.clauses
+        for at in range(len(all_of)):
+            rest = all_of[:at] + all_of[at + 1:]
+            self.lacks(arranged(chance, chance.choice(ARRANGEMENTS), rest, clauses_of(chance, 13, chance.randint(0, 3), 2)), at)
+        # the first of several, and all
+        for first, second in ((0, 1), (3, 50), (58, 59)):
+            self.lacks([clause for at, clause in enumerate(all_of) if at not in (first, second)], first)
+        self.lacks([[1, 2]], 0)
+        # another sign, a literal less, a literal more
+        for at in (0, 31, 59):
+            first, *rest = all_of[at]
+            for clause in ([-first] + rest, rest, [first] + rest + [min(set(range(1, 14)) - set(map(abs, all_of[at])))], []):
+                self.lacks(all_of[:at] + [clause] + all_of[at + 1:], at)
+
+    def test_back_to_the_old_sheet(self):
+        # once the longer sheet is parked, the old one lacks a clause of it; clauses of other lengths are told too
+        old = self.clauses
+        for clause in ([], [13], [-1, 2, -3, 4, -5, 6, -7, 8]):
+            self.put(self.parked, self.going)
+            self.bring(*self.head, old[:5] + [clause] + old[5:])
+            self.assertEqual(self.legs(LARGEST, 1)[0], 0)
+            longer = read(bytes_at(self.parked))
+            self.assertEqual((longer.sheet, longer.legs, longer.verdict), (self.data, 2, NONE))
+            going = written(read(self.going)._replace(sheet=self.data))
+            self.put_sheet(*self.head, old)
+            self.answered(going, 'refused 13 place 23 sheet 1', 'lacks', 'word 23 there, %s\n' % sheet.text_of(clause))
+            self.answered(written(longer), 'refused 12 place 0 sheet 2', 'ended')
+
+    def test_another_batch(self):
+        batch, n = self.head
+        for parked in (self.going, self.ended):
+            for head in ((batch + 1, n), (4464, n), (batch, n + 1), (batch, 128), (0, 14)):
+                for clauses in (self.clauses, self.clauses[1:], [[1, 2]]):
+                    self.put_sheet(*head, clauses)
+                    self.answered(parked, 'refused 11 place 0 sheet 2', self.file, self.parked, 'batch')
+            # a record that does not belong to the parked sheet
+            for wrong in ({'batch': batch + 1}, {'n': n + 1}):
+                for head in (self.head, (batch + 1, n), (batch, n + 1)):
+                    self.put_sheet(*head, self.clauses + [[1]])
+                    self.answered(written(read(parked)._replace(**wrong)), 'refused 11 place 0 sheet 1')
+
+    def test_ended(self):
+        # whether the sheet has further clauses, or lacks some; the verdict is not printed for it
+        for clauses in (self.clauses + [[1]], self.clauses[::-1], self.clauses[1:], self.clauses[:-1], [[1, 2]]):
+            self.put_sheet(*self.head, clauses)
+            self.answered(self.ended, 'refused 12 place 0 sheet 2', self.file, self.parked, 'ended', 'another PARKED')
+        # and a clear, whose marks do not meet the further clause
+        self.forget()
+        self.plan, self.head = (2, 1), (5, 2)
+        self.bring(*self.head, FOUR[:3])
+        self.assertEqual(self.legs(LARGEST)[1][-1], 'batch 5 ball clear calls 6 marks 3 0 0 0')
+        ended = bytes_at(self.parked)
+        for clauses in (FOUR, FOUR[:3] + [[1]], FOUR[2::-1], FOUR[:2]):
+            self.put_sheet(*self.head, clauses)
+            self.answered(ended, 'refused 12 place 0 sheet 2', 'ended', 'another PARKED')
+        self.put(self.file, self.data)
+        self.answered(ended, 'batch 5 ball clear calls 6 marks 3 0 0 0')
+
+    def test_horn(self):
+        for head in (self.head, (9, 3), (0, 128)):
+            for clauses in ([[-1, 2], [1], [-2]], [[-3, 2], [1]], []):
+                self.put_sheet(*head, clauses)
+                for budget in (0, 1, 2, 3, LARGEST):
+                    line = self.run_line(*self.plan, budget)
+                    self.assertIn(' horn ', line)
+                    for parked in (self.going, self.ended):
+                        self.answered(parked, line, budgets=(budget,))
+
+    def test_damaged(self):
+        good = sheet.sheet_of(*self.head, self.clauses + [[1]])
+        longest = sheet.sheet_of(6, 12, eights(random.Random(3), 12, 1024))
+        literal = good[16:20]
+        for line, data in (('1 place 0', good[:-1]), ('1 place 0', good + b'\0'), ('2 place 0', b''), ('2 place 0', good[:8]),
+                           ('4 place 5', good[:20]), ('4 place %d' % (len(good) // 4 - 1), good[:-4]), ('3 place 0', literal + good[4:]),
+                           ('3 place %d' % (len(good) // 4), good + literal),
+                           ('5 place 2', good[:8] + struct.pack('<I', 0x80000081) + good[12:]),
+                           ('6 place 4', good[:16] + struct.pack('<I', 28) + good[20:]), ('7 place 5', good[:20] + literal + good[24:]),
+                           ('5 place 9219', longest + literal), ('5 place 9219', longest + b'\0'), ('5 place 9219', good + bytes(99999))):
+            self.put(self.file, data)
+            for parked in (self.going, self.ended):
+                self.answered(parked, 'refused %s sheet 2' % line)
+            # the parked sheet is read first; no leg leaves such a one
+            self.answered(written(read(self.going)._replace(sheet=good[:24])), 'refused 4 place 6 sheet 1')
+
+    def test_bad_plan(self):
+        # a plan that no leg parks, and one that has too many balls for the n that is brought
+        self.put_sheet(*self.head, self.clauses + [[1]])
+        for self.plan in ((0, 0), (13, 1), (5, 6)):
+            wrong = read(self.going)._replace(block_length=self.plan[0], radius=self.plan[1])
+            self.answered(written(wrong), 'refused 8 place 0 sheet 2')
+        self.plan, clauses = (1, 0), [[61, 62], [1], [-1]]
+        self.forget()
+        self.put_sheet(3, 62, clauses)
+        self.legs(1000, 1)
+        parked = bytes_at(self.parked)
+        self.put_sheet(3, 63, clauses)
+        self.answered(parked, 'refused 8 place 0 sheet 2')
+        self.put_sheet(3, 61, clauses[1:] + [[1, 2]])
+        self.answered(parked, 'refused 11 place 0 sheet 2', 'batch')
+
+    def test_longest(self):
+        # one clause more than a sheet can have
+        self.forget()
+        self.plan, (first, *later) = (8, 1), GROWTHS['the longest sheet'][-1]
+        self.bring(6, 12, first)
+        self.legs(2000, 1)
+        parked, clauses = bytes_at(self.parked), sum(later, first)
+        self.assertEqual(len(clauses), 1024)
+        self.put_sheet(6, 12, clauses + [[1, 2]])
+        self.answered(parked, 'refused 5 place %d sheet 2' % (3 + sum(1 + len(clause) for clause in clauses)))
+
+
 class NotParked(Host):
     def answered(self, data, plan=(3, 1), budgets=(0, 1, 2, 3, LARGEST)):
         """The run's line, and nothing parked."""
@@ -435,22 +806,45 @@ class Damaged(Host):
             self.assertEqual(self.legs(3), (0, [line], ''))
             self.assertEqual(bytes_at(self.parked), written(wrong))
 
+    def other_sheets(self):
+        """Sheets beside that of the search, with the line that leaves the file, or None where there is a leg: while the search goes on, and
+        where it has ended."""
+        ended = 'refused 12 place 0 sheet 2'
+        for clauses in (FOUR[::-1], FOUR + [[1]], [[2, 1]] + FOUR[1:], FOUR + FOUR):
+            yield sheet.sheet_of(4294967295, 2, clauses), None, ended
+        yield sheet.sheet_of(4294967295, 2, FOUR[:3]), 'refused 13 place 12 sheet 1', ended
+        for data, line in ((sheet.sheet_of(4294967294, 2, FOUR), 'refused 11 place 0 sheet 2'),
+                           (sheet.sheet_of(4294967295, 3, FOUR), 'refused 11 place 0 sheet 2'),
+                           (sheet.sheet_of(4294967295, 2, [[1], [2]]), 'batch 4294967295 horn clear calls 3 marks 3 0 0 0'),
+                           (b'', 'refused 2 place 0 sheet 2'), (self.data[:-1], 'refused 1 place 0 sheet 2'),
+                           (self.data[:-4], 'refused 4 place 14 sheet 2'), (self.data + b'\0', 'refused 1 place 0 sheet 2'),
+                           (self.data + bytes(99999), 'refused 5 place 9219 sheet 2')):
+            yield data, line, line
+
     def test_another_sheet(self):
-        for whole in self.whole:
-            for formula in ((4294967295, 2, FOUR[::-1]), (4294967295, 2, FOUR + [[1]]), (4294967295, 2, FOUR[:3]), (4294967294, 2, FOUR),
-                            (4294967295, 3, FOUR), (4294967295, 2, [[2, 1]] + FOUR[1:]), (4294967295, 2, [[1], [2]])):
-                self.put(self.file, sheet.sheet_of(*formula))
-                self.told(whole, 'another sheet')
-            for data in (b'', self.data[:-1], self.data[:-4], self.data + b'\0', self.data + bytes(99999)):
-                self.put(self.file, data)
-                self.told(whole, 'another sheet')
-            self.put(self.file, self.data)
+        for data, *answers in self.other_sheets():
+            self.put(self.file, data)
+            for whole, answer in zip(self.whole, answers):
+                self.told(whole[:-1])
+                self.told(whole[:40] + bytes([whole[40] ^ 1]) + whole[41:])
+                self.put(self.parked, whole)
+                status, lines, _ = self.legs(3)
+                if answer:
+                    self.assertEqual((status, lines, bytes_at(self.parked)), (0, [answer], whole))
+                else:
+                    p = read(bytes_at(self.parked))
+                    self.assertEqual((p.sheet, p.legs, p.next, p.verdict), (data, 2, 2, NONE))
+                    self.assertEqual((status, lines[-1]), (0, 'batch 4294967295 ball none calls %d marks 0 0 0 0' % p.calls))
 
     def test_another_plan(self):
         for whole in self.whole:
             for self.plan in ((2, 2), (2, 0), (1, 1), (3, 1), (12, 1), (0, 0), (2, 3), (13, 1)):
-                self.told(whole, 'another plan')
+                # whatever the sheet
+                for data in (self.data, sheet.sheet_of(4294967295, 2, FOUR + [[1]]), sheet.sheet_of(1, 1, []), b''):
+                    self.put(self.file, data)
+                    self.told(whole, 'another plan')
             self.plan = 2, 1
+            self.put(self.file, self.data)
             self.put(self.parked, whole)
             self.assertEqual(self.legs(3)[1][-1], self.line)
 
@@ -485,6 +879,27 @@ class Crash(Host):
             self.assertEqual(self.crashed(least, size)[0], 0)
             self.is_parked(*self.check_progress(self.lines_again(least), least), self.verdict)
 
+    def test_while_writing_a_longer_sheet(self):
+        for name in ('a short last block', 'the longest sheet', 'clear with n 99'):
+            steps = self.steps(name, random.Random(name))
+            line, longer, budget = self.line, self.data, self.enough
+            self.bring(*self.head, steps[0])
+            self.assertEqual(self.legs(budget, 1)[0], 0)
+            old, size = bytes_at(self.parked), 80 + len(longer)
+            self.put(self.file, longer)
+            for limit in (0, 1, 40, 71, 72, len(old) - 8, len(old), size - 8, size - 1):
+                for ignored, status in ((False, -signal.SIGXFSZ), (True, 2)):
+                    ended, lines, _ = self.crashed(budget, min(limit, size - 1), ignored)
+                    self.assertEqual((ended, lines, bytes_at(self.parked)), (status, [], old))
+            # the old sheet goes on, and so does the longer
+            self.put(self.file, self.data)
+            self.assertEqual(self.legs(budget, 1)[0], 0)
+            self.assertEqual(read(bytes_at(self.parked)).sheet, self.data)
+            self.put(self.file, longer)
+            status, lines, _ = self.crashed(budget, size)
+            self.assertEqual((status, lines[-1].split()[:5], lines[-1].split()[6:]), (0, line.split()[:5], line.split()[6:]))
+            self.assertEqual(read(bytes_at(self.parked)).sheet, longer)
+
     def lines_again(self, budget):
         """The lines of progress of the whole search in a file of its own."""
         lines = self.ran(self.arguments(budget, parked=self.at('other')))[1]
@@ -515,6 +930,11 @@ class Crash(Host):
         self.legs(200, 1)
         os.mkdir(self.parked + '.new')
         self.declines(self.arguments(200))
+        # nor with a longer sheet, where a leg is done that cannot be parked
+        batch, n, clauses = SEARCHES['a short last block'][1]
+        self.put_sheet(batch, n, clauses + clauses[:1])
+        self.declines(self.arguments(200))
+        self.put(self.file, self.data)
         os.rmdir(self.parked + '.new')
         self.assertEqual(self.legs(200)[1][-1], self.line)
 
@@ -533,6 +953,41 @@ class Crash(Host):
                 self.is_parked(*self.check_progress(lines[:at + 1], least), verdict)
             self.assertEqual(self.legs(least), (0, [self.line], ''))
 
+    def test_longer_sheet_between_parking_and_printing(self):
+        # each sheet is parked with its first leg, whose line nobody reads
+        for name in ('one call a ball', 'clear with n 99', 'four clauses'):
+            steps = self.steps(name, random.Random(name))
+            budget, came = max(3, self.calls // (2 * len(steps))), 0
+            for clauses in steps:
+                self.bring(*self.head, clauses)
+                nobody, out = os.pipe()
+                os.close(nobody)
+                self.assertEqual(self.legs(budget, stdout=out)[0], -signal.SIGPIPE)
+                os.close(out)
+                p = read(bytes_at(self.parked))
+                self.assertEqual((p.sheet, p.legs), (self.data, came + 1))
+                came = p.legs
+            words = self.legs(budget)[1][-1].split()
+            self.assertEqual((words[:5], words[6:]), (self.line.split()[:5], self.line.split()[6:]))
+
+    def test_longer_sheet_in_one_write(self):
+        # the file beside the parked one has another name too, under which the first that is written in a call stays
+        first = self.at('first')
+        for name in ('four clauses', 'the longest sheet', 'clear with n 99'):
+            for legs in ((1,), ()):
+                steps = self.steps(name, random.Random(name))
+                self.bring(*self.head, steps[0])
+                self.assertEqual(self.legs(self.enough, 1)[0], 0)
+                self.bring(*self.head, steps[-1])
+                self.put(first, b'')
+                os.link(first, self.parked + '.new')
+                lines = self.legs(self.enough, *legs)[1]
+                p = read(bytes_at(first))
+                leg, balls, _, _, calls = map(int, PROGRESS.fullmatch(lines[0]).groups())
+                self.assertEqual((p.sheet, p.legs, p.next, p.calls), (self.data, leg, balls, calls))
+                self.assertEqual(os.path.samefile(first, self.parked), len(lines) == 2)
+                os.remove(first)
+
     @unittest.skipUnless(os.path.exists('/dev/full'), 'no /dev/full')
     def test_printing_fails(self):
         self.take('four clauses')
@@ -547,7 +1002,10 @@ class Crash(Host):
 
 class Kill(Host):
     """Kills at any moment. With one budget the legs are always the same, so that what is printed and parked stands in the lines of a search
-    that nobody killed."""
+    that nobody killed. Where another sheet is brought, the lines from there on are those of its own search that had come as far, and the
+    old sheet stands in the file until there is a leg more."""
+    # the legs when the sheet was brought, and the sheet that was parked then
+    since, old = 0, None
 
     def look(self):
         """The legs in the parked file, which is absent or whole and never goes back."""
@@ -558,7 +1016,7 @@ class Kill(Host):
         p, self.last = read(data), data
         _, balls, _, _, calls = map(int, PROGRESS.fullmatch(self.lines[p.legs - 1]).groups())
         self.assertEqual((p.next, p.calls, p.verdict), (balls, calls, self.verdict if p.legs == len(self.lines) - 1 else SPENT))
-        self.assertEqual((p.block_length, p.radius, p.sheet), (*self.plan, self.data))
+        self.assertEqual((p.block_length, p.radius, p.sheet), (*self.plan, self.data if p.legs > self.since else self.old))
         self.assertGreaterEqual(p.legs, self.seen)
         self.seen = p.legs
         return p.legs
@@ -601,6 +1059,59 @@ class Kill(Host):
         self.assertEqual(self.legs(budget)[1], self.lines[self.seen:])
         self.assertEqual(self.look(), len(self.lines) - 1)
         self.assertEqual(self.legs(budget)[1], [self.line])
+
+    def bring_more(self, clauses, budget):
+        """Another sheet, from what is parked on."""
+        self.bring(*self.head, clauses)
+        self.since, self.old, other = self.seen, self.parked_sheet(), self.at('other')
+        if self.last:
+            self.put(other, written(read(self.last)._replace(sheet=self.data)))
+        self.lines[self.seen:] = self.ran(self.arguments(budget, parked=other))[1]
+        os.remove(other)
+        words, due = self.lines[-1].split(), self.line.split()
+        self.assertEqual((words[:5], words[6:]), (due[:5], due[6:]))
+
+    def parked_sheet(self):
+        return read(self.last).sheet if self.last else None
+
+    def killed_while_growing(self, steps, kills, budget, chance, milliseconds):
+        """A search that is killed while its sheet grows. After a kill it goes on with the same sheet, or a longer one, or the parked one
+        where no leg on the sheet is parked yet. Whether it came to a verdict."""
+        sheets, at = [sheet.sheet_of(*self.head, clauses) for clauses in steps], 0
+        self.forget()
+        self.seen, self.last, self.lines = 0, None, []
+        self.bring_more(steps[0], budget)
+        while self.kills < kills:
+            if self.killed(budget, chance, milliseconds):
+                return True
+            if self.seen == len(self.lines) - 1:
+                continue
+            parked, before = self.parked_sheet(), at
+            if parked and parked != self.data and chance.random() < 0.3:
+                at = sheets.index(parked)
+            elif chance.random() < 0.6:
+                at = min(at + 1, len(steps) - 1)
+            if at != before:
+                self.bring_more(steps[at], budget)
+        return False
+
+    def until_grown(self, name, kills, milliseconds):
+        chance, self.kills = random.Random(name), 0
+        while self.kills < kills:
+            steps = self.steps(name, chance)
+            ended = self.killed_while_growing(steps, kills, self.enough, chance, milliseconds)
+        # and to the end with the last sheet
+        if not ended and self.seen < len(self.lines) - 1:
+            self.bring_more(steps[-1], self.enough)
+        self.assertEqual(self.legs(self.enough)[1], self.lines[self.seen:])
+        self.assertEqual(self.look(), len(self.lines) - 1)
+        self.assertEqual(self.legs(self.enough)[1], self.lines[-1:])
+
+    def test_while_growing(self):
+        for name, milliseconds in (('none of 1024 balls', 10), ('the longest sheet', 10), ('one call a ball', 5), ('clear with n 99', 20),
+                                   ('a short last block', 2), ('four clauses', 2)):
+            with self.subTest(name):
+                self.until_grown(name, 30, milliseconds)
 
     def test_in_memory(self):
         for name in ('none of 1024 balls', 'the longest sheet', 'one call a ball', 'clear with n 99'):

@@ -5,10 +5,10 @@
 
    - A sheet's buffer has at least `length` bytes, a table at least `cells` cells, and an array its number of elements. They must be
      valid during the call, and need live no longer: the library keeps no pointer. Meanwhile nobody writes them, and nobody reads
-     the table, a tally or a record. A pointer may be null where its length is 0. The two sheets of alike, and the two arrays of
-     clause_counts, may share a buffer; the parts of a tally and its sheet may not.
-   - There is enough stack: run takes about 375 KB at its deepest (241 KB with 32 variables, 97 KB on a Horn sheet), leg 332 KB (199 KB
-     with 32 variables, 114 KB on a Horn sheet), split 215 KB, alike 74 KB, clause_counts and the operations on a tally 37 KB, covering_code 32 KB (docs/BENCH.md).
+     the table, a tally or a record. A pointer may be null where its length is 0. The two sheets of alike or of leg_longer, and the two
+     arrays of clause_counts, may share a buffer; the parts of a tally and its sheet may not.
+   - There is enough stack: run takes about 375 KB at its deepest (241 KB with 32 variables, 97 KB on a Horn sheet), leg 333 KB (199 KB
+     with 32 variables, 114 KB on a Horn sheet), leg_longer 370 KB (236 KB, 151 KB), split 215 KB, alike 91 KB, clause_counts and the operations on a tally 37 KB, covering_code 32 KB (docs/BENCH.md).
 
    In every reply `number` and `place` are the refusal's number and place (README.md has the table); both are 0 where nothing
    is refused, and a refusal is told by number not 0. What does not belong to an answer is 0. */
@@ -72,7 +72,8 @@ struct checkpoint {
     uint64_t next;
 };
 
-/* The fields of a reply, and then the sheet that a refusal is about: 1 at every refusal, else 0. */
+/* The fields of a reply, and then the sheet that a refusal is about: 1 the only one, or the old one; 2 the longer one; 0 where nothing is
+   refused. */
 struct leg_reply {
     uint32_t verdict;
     uint32_t batch;
@@ -93,9 +94,25 @@ struct leg_reply {
    On one sheet, from the start until a leg says clear or none, the legs' calls add up to those that one run needs, and the last
    verdict and marks are those of that run carried to its end. Refused legs in between do no harm, and budgets may differ. Where each leg has at
    least 1 + k + ... + k^R calls and none is refused, there are at most M legs. From any other record a none says only that no assignment
-   within R of the centres from next on meets every clause. The host sees to it that a record is lent with its own sheet. */
+   within R of the centres from next on meets every clause. The host sees to it that a record is lent with its own sheet. Every refusal
+   is about sheet 1. */
 struct leg_reply leg(uint32_t block_length, uint32_t radius, uint32_t budget, const uint8_t *sheet, size_t length,
                      struct checkpoint *record);
+
+/* One leg where further clauses have come since the search was parked: the old sheet, and a longer one, which is searched. Longer is a name:
+   no length is tested, and the two may be equal. In this order: a bad plan is refused (8, sheet 2), then a bad old sheet (sheet 1), then a bad
+   longer one (2). A longer sheet that is Horn is answered as run answers it, whatever the old one and the record, which stays. Then 8 where
+   the longer sheet has 2^63 balls or more (2); 11 where the plan differs from the record's (2), the old sheet's batch number or n (1), or
+   the longer one's (2); 12 where next is M or more (2), each with place 0; and 13 where a clause of the old sheet, as a set of literals, is
+   none of the longer one's (1): the place is the first word, in the old sheet, of the first such clause. Otherwise the leg works whole balls
+   of the longer sheet from next on, as leg does: the balls emptied before stay done. A refusal leaves the record as it came.
+
+   From the start, where the clauses of the sheet that each leg searched (the longer one, where there are two) all stand in the last one's, a
+   clear or none of the last leg is right for its sheet. That is so where each leg brings as its old sheet the one that was searched last. The
+   legs' calls then need not add up to those of one run. Where each leg has at least 1 + k + ... + k^R calls, k for the last sheet, and none
+   is refused, there are at most M legs by balls. */
+struct leg_reply leg_longer(uint32_t block_length, uint32_t radius, uint32_t budget, const uint8_t *sheet, size_t length,
+                            const uint8_t *longer, size_t longer_length, struct checkpoint *record);
 
 /* How a clause stands: how many of its literals are met, and how many are open, that is not met and with a variable that is not
    flipped. */

@@ -117,10 +117,14 @@ class Sheets(unittest.TestCase):
                 self.assertEqual(str(seen.exception), 'the line says %s, and this sheet is decided by %s' % (wrong, right))
 
     def test_refusals_are_explained(self):
-        for number in (3, 4, 5, 6, 7):
+        for number in (3, 4, 5, 6, 7, 13):
             self.assertIn('at word 3:', sheet.explain(BYTES, 'refused %d place 3' % number))
-        for number in (1, 2, 8, 9):
+        for number in (1, 2, 8, 9, 11, 12):
             self.assertNotIn('word', sheet.explain(BYTES, 'refused %d place 0' % number))
+        for number in range(1, 14):
+            told = sheet.explain(BYTES, 'refused %d place 0' % number)
+            self.assertNotIn('unknown', told)
+            self.assertEqual(sheet.explain(BYTES, 'refused %d place 0 sheet 2' % number), told)
         overlong = sheet.explain(BYTES, 'refused 5 place 9219')
         self.assertIn('too long', overlong)
         self.assertNotIn('word', overlong)

@@ -1,6 +1,7 @@
 -- The settled examples of paper 01 as papers 7 and 9 of 02 amend them, the one of paper 4, one over four words
--- by each road, one for each of paper 6's two rules, two of paper 7's, four of paper 9's, eight of splitting (paper 10) and thirteen of legs
--- (paper 11, two of them a none of a record that did not come from the start, and the clear from there), proved from the definitions by one joint statement about one table.
+-- by each road, one for each of paper 6's two rules, two of paper 7's, four of paper 9's, eight of splitting (paper 10), thirteen of legs
+-- (paper 11, two of them a none of a record that did not come from the start, and the clear from there) and thirteen of legs on two sheets (paper
+-- 12), proved from the definitions by one joint statement about one table.
 use mathlib.Core.Path.{_≡_, refl}
 use mathlib.Core.Bool.{true, false}
 use mathlib.Core.List.{List, [], _∷_, _++_, map}
@@ -11,6 +12,7 @@ use Rattle.words.specs.Bits.{bit, toggle, distance, wordAt}
 use Rattle.formula.specs.Formula as Formula
 use Rattle.formula.specs.Formula.{Literal, Clause, Formula}
 use Rattle.formula.specs.Sheet as Sheet
+use Rattle.formula.specs.Sets as Sets
 use Rattle.formula.specs.Sheet.{encode}
 use Rattle.code.specs.declared.Answer.{Answer}
 use Rattle.code.specs.declared.Answer.the-variants.{Number, Refused}
@@ -31,7 +33,7 @@ use Rattle.engine.specs.declared.legs.LegEnd.{LegEnd}
 use Rattle.engine.specs.Answers as Answers
 use Rattle.engine.specs.Answers.{replyTo, splitTo, REFUSED, CLEAR, NONE, SPENT, NO-ROAD, HORN, BALLS}
 use Rattle.engine.specs.Legs as Legs
-use Rattle.engine.specs.Legs.{legTo}
+use Rattle.engine.specs.Legs.{takes, alone, grown}
 
 -- a positive and a negative literal
 abbrev pos : ℕ → Literal
@@ -41,11 +43,12 @@ abbrev neg : ℕ → Literal
 neg v = record { variable = v; positive = false }
 
 -- What is asked of the library: a run, by its plan, budget and sheet; splitting, by its budget and sheet; a leg, by its plan, budget, sheet
--- and record; a code, a volume or a floor, by length and radius.
+-- and record, or with an old sheet and a longer one; a code, a volume or a floor, by length and radius.
 pub data Question : Type 0 where
   run-of : (size radius budget : ℕ) → Formula → Question
   split-of : (budget : ℕ) → Formula → Question
   leg-of : (size radius budget : ℕ) → Formula → Checkpoint → Question
+  longer-of : (size radius budget : ℕ) → (old longer : Formula) → Checkpoint → Question
   code-of : (t s : ℕ) → Question
   volume-of : (t s : ℕ) → Question
   floor-of : (t s : ℕ) → Question
@@ -74,7 +77,8 @@ wordsIn (Refused r) table = []
 pub ask : Question → List ℕ
 ask (run-of size radius budget f) = numbers (replyTo (Search.plan size radius) budget (encode f))
 ask (split-of budget f) = numbers (splitTo budget (encode f))
-ask (leg-of size radius budget f r) = legNumbers (legTo (Search.plan size radius) budget (encode f) r)
+ask (leg-of size radius budget f r) = legNumbers (takes r (alone (Search.plan size radius) budget (encode f)))
+ask (longer-of size radius budget g f r) = legNumbers (takes r (grown (Search.plan size radius) budget (encode g) (encode f)))
 ask (code-of t s) = let table : List ℕ = replicate (2 ^ t) 0 in wordsIn (codeAnswer t s table) (codeTable t s table)
 ask (volume-of t s) = answerNumbers (volumeAnswer t s)
 ask (floor-of t s) = answerNumbers (floorAnswer t s)
@@ -110,12 +114,22 @@ the-none road calls = NONE ∷ 0 ∷ road ∷ no-marks ++ (calls ∷ 0 ∷ 0 ∷
 abbrev the-spent : ℕ → ℕ → List ℕ
 the-spent road calls = SPENT ∷ 0 ∷ road ∷ no-marks ++ (calls ∷ 0 ∷ 0 ∷ [])
 
+-- one more clause than `all-four`, which no assignment meets; and one fewer
+abbrev hopeless : Formula
+hopeless = sheet 2 ((pos 1 ∷ pos 2 ∷ []) ∷ (pos 1 ∷ neg 2 ∷ []) ∷ (neg 1 ∷ pos 2 ∷ []) ∷ (neg 1 ∷ neg 2 ∷ []) ∷ [] ∷ [])
+
+abbrev three : Formula
+three = sheet 2 ((pos 1 ∷ pos 2 ∷ []) ∷ (pos 1 ∷ neg 2 ∷ []) ∷ (neg 1 ∷ pos 2 ∷ []) ∷ [])
+
+abbrev one : Formula
+one = sheet 2 ((pos 1 ∷ pos 2 ∷ []) ∷ [])
+
 -- a record of batch b, with its next ball; what a leg that is refused leaves
 abbrev at : (b n size radius next : ℕ) → Checkpoint
 at b n size radius next = record { batch = b; n = n; size = size; radius = radius; next = next }
 
-abbrev no-leg : ℕ → ℕ → List ℕ
-no-leg number next = REFUSED ∷ 0 ∷ 0 ∷ no-marks ++ (0 ∷ number ∷ 0 ∷ 1 ∷ next ∷ [])
+abbrev no-leg : (number place sheet next : ℕ) → List ℕ
+no-leg number place sheet next = REFUSED ∷ 0 ∷ 0 ∷ no-marks ++ (0 ∷ number ∷ place ∷ sheet ∷ next ∷ [])
 
 pub record Row : Type 0 where
   pub question : Question
@@ -170,11 +184,27 @@ examples =
     ∷ row (leg-of 3 1 9 sample (at 0 3 3 1 0)) (the-clear BALLS (1 ∷ 0 ∷ 0 ∷ 0 ∷ []) 2 ++ (0 ∷ 2 ∷ []))
     ∷ row (leg-of 2 0 9 (sheet 2 ((pos 1 ∷ pos 2 ∷ []) ∷ (neg 2 ∷ []) ∷ [])) (at 0 2 2 0 2)) (the-none BALLS 2 ++ (0 ∷ 4 ∷ []))
     ∷ row (leg-of 2 0 9 (sheet 2 ((pos 1 ∷ pos 2 ∷ []) ∷ (neg 2 ∷ []) ∷ [])) (at 0 2 2 0 0)) (the-clear BALLS (1 ∷ 0 ∷ 0 ∷ 0 ∷ []) 2 ++ (0 ∷ 4 ∷ []))
-    ∷ row (leg-of 2 1 9 all-four (at 0 2 2 1 2)) (no-leg 12 2)
-    ∷ row (leg-of 2 1 9 all-four (at 5 2 2 1 2)) (no-leg 11 2)
+    ∷ row (leg-of 2 1 9 all-four (at 0 2 2 1 2)) (no-leg 12 0 1 2)
+    ∷ row (leg-of 2 1 9 all-four (at 5 2 2 1 2)) (no-leg 11 0 1 2)
     ∷ row (leg-of 1 1 1 opposites (at 5 2 2 1 2)) (the-spent HORN 1 ++ (0 ∷ 2 ∷ []))
-    ∷ row (leg-of 1 0 9 (sheet 63 ((pos 1 ∷ pos 2 ∷ []) ∷ [])) (at 5 2 2 1 2)) (no-leg 8 2)
+    ∷ row (leg-of 1 0 9 (sheet 63 ((pos 1 ∷ pos 2 ∷ []) ∷ [])) (at 5 2 2 1 2)) (no-leg 8 0 1 2)
     ∷ row (leg-of 1 0 9 (sheet 62 ((pos 1 ∷ pos 2 ∷ []) ∷ [])) (at 0 62 1 0 (2 ^ 62 - 1))) (the-clear BALLS ((2 ^ 32 - 1) ∷ (2 ^ 30 - 1) ∷ 0 ∷ 0 ∷ []) 1 ++ (0 ∷ 2 ^ 62 ∷ []))
+    -- The first leg empties ball 0 in 3 calls, and the second ball 1 of the longer sheet in 1; a run of that sheet takes 2 calls in all.
+    ∷ row (longer-of 2 1 5 one all-four (at 0 2 2 1 0)) (the-spent BALLS 3 ++ (0 ∷ 1 ∷ []))
+    ∷ row (longer-of 2 1 9 all-four hopeless (at 0 2 2 1 1)) (the-none BALLS 1 ++ (0 ∷ 2 ∷ []))
+    ∷ row (run-of 2 1 9 hopeless) (the-none BALLS 2)
+    ∷ row (longer-of 2 1 9 (sheet 2 ((pos 1 ∷ pos 2 ∷ []) ∷ (pos 2 ∷ pos 1 ∷ []) ∷ [])) (sheet 2 ((neg 2 ∷ neg 1 ∷ []) ∷ (pos 1 ∷ pos 2 ∷ []) ∷ [])) (at 0 2 2 1 0))
+    (the-clear BALLS (1 ∷ 0 ∷ 0 ∷ 0 ∷ []) 2 ++ (0 ∷ 2 ∷ []))
+    ∷ row (longer-of 2 1 9 all-four three (at 0 2 2 1 1)) (no-leg 13 12 1 1)
+    ∷ row (longer-of 2 1 9 all-four three (at 0 2 2 1 2)) (no-leg 12 0 2 2)
+    ∷ row (longer-of 3 1 9 (sheet 3 ((pos 1 ∷ pos 2 ∷ pos 3 ∷ []) ∷ (neg 2 ∷ []) ∷ [])) (sheet 3 ((neg 1 ∷ []) ∷ (pos 3 ∷ pos 2 ∷ pos 1 ∷ []) ∷ [])) (at 0 3 3 1 0))
+    (no-leg 13 7 1 0)
+    ∷ row (longer-of 2 1 9 one all-four (at 5 2 2 2 2)) (no-leg 11 0 2 2)
+    ∷ row (longer-of 2 1 9 one all-four (at 5 2 2 1 2)) (no-leg 11 0 1 2)
+    ∷ row (longer-of 2 1 9 one sample (at 0 2 2 1 2)) (no-leg 11 0 2 2)
+    ∷ row (longer-of 1 1 1 all-four opposites (at 5 2 2 1 2)) (the-spent HORN 1 ++ (0 ∷ 2 ∷ []))
+    ∷ row (longer-of 0 0 9 (sheet 0 (one .clauses)) all-four (at 0 2 2 1 0)) (no-leg 8 0 2 0)
+    ∷ row (longer-of 2 1 9 (sheet 1 (one .clauses)) (sheet 0 (one .clauses)) (at 0 2 2 1 0)) (no-leg 6 5 1 0)
     ∷ row (code-of 2 1) (0 ∷ 1 ∷ [])
     ∷ row (code-of 3 1) (0 ∷ 7 ∷ [])
     ∷ row (code-of 4 1) (0 ∷ 7 ∷ 8 ∷ 15 ∷ [])
@@ -207,6 +237,8 @@ unfolding examples ask numbers legNumbers answerNumbers wordsIn
     Answers.methodOf Answers.outcome Answers.refusal Answers.judged Answers.decided Answers.decision
     Answers.splitJudged Answers.splitDecision
     Answers.methodNumber Answers.numbersOf Answers.replyOf replyTo splitTo
-    Legs.belongs Legs.ballsLeg Legs.legOn Legs.legBy Legs.about Legs.legEnd legTo
+    Sets.sameLiteral Sets.within Sets.sameSet Sets.firstLacking
+    Legs.about Legs.refusedLeg Legs.decidedLeg Legs.ofPlan Legs.ofBatch Legs.decline-when Legs.all-kept Legs._then_ Legs.checks
+    Legs.ballsLeg Legs.unless-declined Legs.legOn Legs.legRead takes
     lib.Count.ones lib.Count.onesIn
 examples-hold = refl

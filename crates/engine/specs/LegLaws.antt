@@ -1,20 +1,25 @@
 -- What a leg is, case by case, and what legs in order keep: the laws that LegAnswers rests on.
 use mathlib.Core.Path.{_≡_, refl, sym, ap, ap₂, _∙_, subst}
 use mathlib.Core.Logic.{inl, inr}
-use mathlib.Core.Bool.{Bool, true, false, cond, not, _&&_, true≢false}
+use mathlib.Core.Bool.{Bool, true, false, cond, not, true≢false}
 use mathlib.Core.List.{List, [], _∷_, List·Memᴰ·head, List·Memᴰ·tail}
 use Prim.Native.Nat.{ℕ, _+_, _^_, _≤_, _<_}
-use native.Mathlib.Nat.{le-trans, add-zero, add-assoc}
+use native.Mathlib.Nat.{le-trans, zero-add, add-zero, add-assoc}
 use native.Mathlib.Omega.{arith}
 use lib.Dec.{eqb, leb}
-use lib.ListN.{length}
-use borrow.Author.Tests.{leb-true, leb-false, le-leb, lt-leb, eq-eqb, eqb-true}
-use Rattle.words.specs.Lists.{In}
-use Rattle.words.specs.ListLaws.{and-left, and-right}
+use borrow.Author.Tests.{leb-true, leb-false, eq-eqb, eqb-true}
+use Rattle.words.specs.Lists.{In, keep, count}
+use Rattle.words.specs.ListLaws.{and-left, and-right, and-both}
+use Rattle.words.specs.CountLaws.{count-cons}
 use Rattle.formula.specs.Formula.{Formula, WellFormed}
-use Rattle.formula.specs.Sheet.{Result, accepted, refused, _>>=_, _>>_, refuse-when, parse}
+use Rattle.formula.specs.Sheet.{Result, accepted, refused, parse, headerWords}
 use Rattle.formula.specs.ParseAccepted.{parse-well-formed}
-use Rattle.formula.specs.Sets.{stands}
+use Rattle.formula.specs.ParseRefused.{parse-refused}
+use Rattle.formula.specs.Sets.{stands, firstLacking}
+use Rattle.formula.specs.SetLaws.{stands-refl}
+use Rattle.formula.specs.LackingLaws.{lacksNone, lacking-stands}
+use Rattle.formula.specs.declared.sets.Lacking.{Lacking}
+use Rattle.formula.specs.declared.sets.Lacking.the-variants.{Nothing, At}
 use Rattle.code.specs.Code.{code}
 use Rattle.code.specs.Operations.{coded?}
 use Rattle.tree.specs.Explore.{Outcome, found, calls, plus, powers}
@@ -28,130 +33,168 @@ use Rattle.search.specs.LegLaws.{nothing-empties, emptied-further, emptied-join
 use Rattle.search.specs.CallLaws.{run-rest}
 use Rattle.horn.specs.Horn.{isHorn}
 use Rattle.engine.specs.declared.Reply.{Reply}
+use Rattle.engine.specs.declared.legs.Check.{Check}
+use Rattle.engine.specs.declared.legs.Check.the-variants.{Passed, Declined}
 use Rattle.engine.specs.declared.legs.Checkpoint.{Checkpoint}
 use Rattle.engine.specs.declared.legs.LegEnd.{LegEnd}
-use Rattle.engine.specs.Answers.{answered, judged, decided, decision, replyTo, methodNumber, numbersOf, replyOf, BAD-PLAN, REFUSED, SPENT, BALLS}
+use Rattle.engine.specs.Answers.{methodOf, answered, judged, decided, decision, replyTo, methodNumber, numbersOf, replyOf, BAD-PLAN, REFUSED, SPENT, HORN, BALLS}
 use Rattle.engine.specs.Right.{Accepted}
 use Rattle.engine.specs.DemandLaws.{covering, reply-stays, calls-number, spent-number}
-use Rattle.engine.specs.Legs.{legged, centres, belongs, movedTo, ballsLeg, legOn, legBy, about, legEnd, legTo, Searched, Leg, takes, checkpointAfter, Turn, turnOf, turns, summed, start, OnOne, StandsIn, Enough, OTHER-SEARCH, FINISHED}
+use Rattle.engine.specs.Legs.{about, refusedLeg, decidedLeg, Leg, centres, ofPlan, ofBatch, belongs, movedTo, decline-when, all-kept, _then_, checks, ballsLeg, unless-declined, legOn, legRead, takes, Brings, Searched, checkpointAfter, Turn, turnOf, turns, summed, start, OnOne, StandsIn, Follow, no-more, Enough, ballLegs, FIRST, OTHER-SEARCH, FINISHED}
+use Rattle.engine.specs.LegRefusals.{Checked, too-many, other-plan, other-old, other-sheet, finished, dropped, passes, LegReason, bad-plan, bad-old, bad-sheet, unchecked}
+
+-- ---- the checks
+
+module _ (name M : ℕ) (p : Plan) (r : Checkpoint) (g f : Formula) (x : Lacking) where
+  abbrev Says : Check → Type 0
+  Says = Checked name M p r g f x
+
+  -- the checks from one on
+  abbrev from-next : Check
+  from-next = decline-when (leb M (r .next)) name FINISHED then all-kept x
+
+  abbrev from-sheet : Check
+  from-sheet = decline-when (not (ofBatch f r)) name OTHER-SEARCH then from-next
+
+  abbrev from-old : Check
+  from-old = decline-when (not (ofBatch g r)) FIRST OTHER-SEARCH then from-sheet
+
+  module _ (few : M < 2 ^ 63) where
+    by-lacking : ofPlan p r ≡ true → ofBatch g r ≡ true → ofBatch f r ≡ true → r .next < M → (y : Lacking) → x ≡ y → Says (all-kept y)
+    unfolding all-kept
+    by-lacking a b c d Nothing e = passes few a b c d e
+    by-lacking a b c d (At place) e = dropped few a b c d e
+
+    by-next : ofPlan p r ≡ true → ofBatch g r ≡ true → ofBatch f r ≡ true → (t : Bool) → leb M (r .next) ≡ t →
+        Says (decline-when t name FINISHED then all-kept x)
+    unfolding decline-when _then_
+    by-next a b c true e = finished few a b c (leb-true _ _ e)
+    by-next a b c false e = by-lacking a b c (leb-false _ _ e) x refl
+
+    by-sheet : ofPlan p r ≡ true → ofBatch g r ≡ true → (t : Bool) → ofBatch f r ≡ t → Says (decline-when (not t) name OTHER-SEARCH then from-next)
+    unfolding decline-when _then_
+    by-sheet a b true e = by-next a b e (leb M (r .next)) refl
+    by-sheet a b false e = other-sheet few a b e
+
+    by-old : ofPlan p r ≡ true → (t : Bool) → ofBatch g r ≡ t → Says (decline-when (not t) FIRST OTHER-SEARCH then from-sheet)
+    unfolding decline-when _then_
+    by-old a true e = by-sheet a e (ofBatch f r) refl
+    by-old a false e = other-old few a e
+
+    by-plan : (t : Bool) → ofPlan p r ≡ t → Says (decline-when (not t) name OTHER-SEARCH then from-old)
+    unfolding decline-when _then_
+    by-plan true e = by-old e (ofBatch g r) refl
+    by-plan false e = other-plan few e
+
+  pub checks-say : Says (checks name M p r g f x)
+  unfolding checks decline-when _then_
+  checks-say = by-count (leb (2 ^ 63) M) refl
+    where
+      by-count : (t : Bool) → leb (2 ^ 63) M ≡ t →
+          Says (decline-when t name BAD-PLAN then decline-when (not (ofPlan p r)) name OTHER-SEARCH then from-old)
+      by-count true e = too-many (leb-true _ _ e)
+      by-count false e = by-plan (leb-false _ _ e) (ofPlan p r) refl
+
+-- a check that passed is none that declined
+unfoldable passed? : Check → Bool
+passed? Passed = true
+passed? (Declined sheet number place) = false
+
+-- where all pass, the balls can be searched, and no clause of the old formula is lacking
+pub record Fine (M : ℕ) (p : Plan) (r : Checkpoint) (g f : Formula) (x : Lacking) : Type 0 where
+  pub few : M < 2 ^ 63
+  pub same : belongs f p r ≡ true
+  pub old : ofBatch g r ≡ true
+  pub left : r .next < M
+  pub kept : x ≡ Nothing
+
+pub checks-fine : (name M : ℕ) (p : Plan) (r : Checkpoint) (g f : Formula) (x : Lacking) → checks name M p r g f x ≡ Passed → Fine M p r g f x
+unfolding passed? belongs
+checks-fine name M p r g f x = go (checks-say name M p r g f x)
+  where
+    go : {c : Check} → Checked name M p r g f x c → c ≡ Passed → Fine M p r g f x
+    go (passes few a b c d k) e = record { few = few; same = and-both (ofBatch f r) (ofPlan p r) c a; old = b; left = d; kept = k }
+    go (too-many h) e = absurd (true≢false (ap passed? (sym e)))
+    go (other-plan few a) e = absurd (true≢false (ap passed? (sym e)))
+    go (other-old few a b) e = absurd (true≢false (ap passed? (sym e)))
+    go (other-sheet few a b c) e = absurd (true≢false (ap passed? (sym e)))
+    go (finished few a b c d) e = absurd (true≢false (ap passed? (sym e)))
+    go (dropped few a b c d k) e = absurd (true≢false (ap passed? (sym e)))
 
 -- ---- one leg, case by case
 
-pub data LegIs (p : Plan) (A : ℕ) (s : List ℕ) (r : Checkpoint) : LegEnd → Type 0 where
-  bad-plan : coded? (p .size) (p .radius) ≡ false → LegIs p A s r (legEnd r (refused BAD-PLAN 0))
-  bad-sheet : {number place : ℕ} → coded? (p .size) (p .radius) ≡ true → parse s ≡ refused number place →
-      LegIs p A s r (legEnd r (refused number place))
-  by-rounds : {f : Formula} → Accepted p s f → isHorn (f .clauses) ≡ true → LegIs p A s r (legEnd r (accepted (legged (judged p A f) r)))
-  too-many : {f : Formula} → Accepted p s f → isHorn (f .clauses) ≡ false → 2 ^ 63 ≤ centres p f →
-      LegIs p A s r (legEnd r (refused BAD-PLAN 0))
-  other-search : {f : Formula} → Accepted p s f → isHorn (f .clauses) ≡ false → centres p f < 2 ^ 63 →
-      belongs (f .batch) (f .n) p r ≡ false → LegIs p A s r (legEnd r (refused OTHER-SEARCH 0))
-  finished : {f : Formula} → Accepted p s f → isHorn (f .clauses) ≡ false → centres p f < 2 ^ 63 →
-      belongs (f .batch) (f .n) p r ≡ true → centres p f ≤ r .next → LegIs p A s r (legEnd r (refused FINISHED 0))
-  by-balls : {f : Formula} → Accepted p s f → Searched p f r → LegIs p A s r (legEnd r (accepted (ballsLeg p A r f)))
+-- A leg is refused, or by rounds, or by balls.
+pub data LegWas (l : Leg) (r : Checkpoint) : LegEnd → Type 0 where
+  declined : {sheet number place : ℕ} → LegReason l r sheet number place → LegWas l r (refusedLeg sheet number place r)
+  rounds-leg : {g f : Formula} → Brings l g f → isHorn (f .clauses) ≡ true → LegWas l r (decidedLeg (judged (l .plan) (l .budget) f) r)
+  balls-leg : {g f : Formula} → Brings l g f → Searched (l .plan) f r → stands (g .clauses) (f .clauses) ≡ true →
+      LegWas l r (ballsLeg (l .plan) (l .budget) r f)
 
-module _ (p : Plan) (A : ℕ) (s : List ℕ) (r : Checkpoint) where
-  formula-is : (f : Formula) → Accepted p s f → LegIs p A s r (legEnd r (legOn p A r f))
-  unfolding legOn refuse-when _>>_
-  formula-is f h = by-horn (isHorn (f .clauses)) refl
-    where
-      by-next : isHorn (f .clauses) ≡ false → centres p f < 2 ^ 63 → belongs (f .batch) (f .n) p r ≡ true →
-          (b : Bool) → leb (centres p f) (r .next) ≡ b →
-          LegIs p A s r (legEnd r (refuse-when b FINISHED 0 >> accepted (ballsLeg p A r f)))
-      by-next o few same true e = finished h o few same (leb-true _ _ e)
-      by-next o few same false e = by-balls h (record { balls = o; few = few; same = same; left = leb-false _ _ e })
-
-      by-record : isHorn (f .clauses) ≡ false → centres p f < 2 ^ 63 → (b : Bool) → belongs (f .batch) (f .n) p r ≡ b →
-          LegIs p A s r (legEnd r (refuse-when (not b) OTHER-SEARCH 0
-          >> refuse-when (leb (centres p f) (r .next)) FINISHED 0
-          >> accepted (ballsLeg p A r f)))
-      by-record o few true e = by-next o few e (leb (centres p f) (r .next)) refl
-      by-record o few false e = other-search h o few e
-
-      by-count : isHorn (f .clauses) ≡ false → (b : Bool) → leb (2 ^ 63) (centres p f) ≡ b →
-          LegIs p A s r (legEnd r (refuse-when b BAD-PLAN 0
-          >> refuse-when (not (belongs (f .batch) (f .n) p r)) OTHER-SEARCH 0
-          >> refuse-when (leb (centres p f) (r .next)) FINISHED 0
-          >> accepted (ballsLeg p A r f)))
-      by-count o true e = too-many h o (leb-true _ _ e)
-      by-count o false e = by-record o (leb-false _ _ e) (belongs (f .batch) (f .n) p r) refl
-
-      by-horn : (b : Bool) → isHorn (f .clauses) ≡ b →
-          LegIs p A s r (legEnd r (cond b (accepted (legged (judged p A f) r))
-          (refuse-when (leb (2 ^ 63) (centres p f)) BAD-PLAN 0
-          >> refuse-when (not (belongs (f .batch) (f .n) p r)) OTHER-SEARCH 0
-          >> refuse-when (leb (centres p f) (r .next)) FINISHED 0
-          >> accepted (ballsLeg p A r f))))
-      by-horn true e = by-rounds h e
-      by-horn false e = by-count e (leb (2 ^ 63) (centres p f)) refl
-
-  pub leg-is : LegIs p A s r (legTo p A s r)
-  unfolding legTo legBy refuse-when _>>_ _>>=_
-  leg-is = by-plan (coded? (p .size) (p .radius)) refl
-    where
-      by-sheet : coded? (p .size) (p .radius) ≡ true → (x : Result Formula) → parse s ≡ x → LegIs p A s r (legEnd r (x >>= legOn p A r))
-      by-sheet h (accepted f) e = formula-is f (record { plan = h; sheet = e })
-      by-sheet h (refused number place) e = bad-sheet h e
-
-      by-plan : (b : Bool) → coded? (p .size) (p .radius) ≡ b →
-          LegIs p A s r (legEnd r (refuse-when (not b) BAD-PLAN 0 >> (parse s >>= legOn p A r)))
-      by-plan true h = by-sheet h (parse s) refl
-      by-plan false h = bad-plan h
-
--- In short: a leg is refused, or by rounds, or by balls.
-pub data LegWas (p : Plan) (A : ℕ) (s : List ℕ) (r : Checkpoint) : LegEnd → Type 0 where
-  declined : (number place : ℕ) → LegWas p A s r (legEnd r (refused number place))
-  rounds-leg : {f : Formula} → Accepted p s f → isHorn (f .clauses) ≡ true → LegWas p A s r (legEnd r (accepted (legged (judged p A f) r)))
-  balls-leg : {f : Formula} → Accepted p s f → Searched p f r → LegWas p A s r (legEnd r (accepted (ballsLeg p A r f)))
-
-pub leg-was : (p : Plan) (A : ℕ) (s : List ℕ) (r : Checkpoint) → LegWas p A s r (legTo p A s r)
-leg-was p A s r = go (leg-is p A s r)
+pub leg-was : (l : Leg) (r : Checkpoint) → LegWas l r (takes r l)
+unfolding takes legRead legOn unless-declined lacksNone
+leg-was l r = by-coded (coded? (l .plan .size) (l .plan .radius)) refl
   where
-    go : {e : LegEnd} → LegIs p A s r e → LegWas p A s r e
-    go (bad-plan h) = declined _ _
-    go (bad-sheet h e) = declined _ _
-    go (by-rounds h horn) = rounds-leg h horn
-    go (too-many h o m) = declined _ _
-    go (other-search h o m b) = declined _ _
-    go (finished h o m b e) = declined _ _
-    go (by-balls h at) = balls-leg h at
+    fine : {g f : Formula} → Brings l g f → isHorn (f .clauses) ≡ false →
+        Fine (centres (l .plan) f) (l .plan) r g f (firstLacking headerWords (g .clauses) (f .clauses)) → LegWas l r (ballsLeg (l .plan) (l .budget) r f)
+    fine {g} {f} h o a =
+        balls-leg h (record { balls = o; few = a .few; same = a .same; left = a .left })
+        (sym (lacking-stands headerWords (g .clauses) (f .clauses)) ∙ ap lacksNone (a .kept))
+
+    by-checks : {g f : Formula} → Brings l g f → isHorn (f .clauses) ≡ false → (c : Check) →
+        checks (l .name) (centres (l .plan) f) (l .plan) r g f (firstLacking headerWords (g .clauses) (f .clauses)) ≡ c →
+        LegWas l r (unless-declined c r (ballsLeg (l .plan) (l .budget) r f))
+    by-checks h o Passed e = fine h o (checks-fine _ _ _ _ _ _ _ e)
+    by-checks {g} {f} h o (Declined sheet number place) e =
+        declined (unchecked h o (subst (Checked (l .name) (centres (l .plan) f) (l .plan) r g f _) e (checks-say _ _ _ _ _ _ _)))
+
+    by-horn : {g f : Formula} → Brings l g f → (b : Bool) → isHorn (f .clauses) ≡ b → LegWas l r (legOn (l .name) (l .plan) (l .budget) r g f)
+    by-horn h true e = rw e (rounds-leg h e)
+    by-horn h false e = rw e (by-checks h e _ refl)
+
+    by-sheets : coded? (l .plan .size) (l .plan .radius) ≡ true → (x y : Result Formula) → parse (l .old) ≡ x → parse (l .sheet) ≡ y →
+        LegWas l r (legRead l r x y)
+    by-sheets h (refused number place) y e e′ = declined (bad-old h (parse-refused (l .old) _ _ e))
+    by-sheets h (accepted g) (refused number place) e e′ = declined (bad-sheet h e (parse-refused (l .sheet) _ _ e′))
+    by-sheets h (accepted g) (accepted f) e e′ = by-horn (record { plan = h; old = e; sheet = e′ }) (isHorn (f .clauses)) refl
+
+    by-coded : (b : Bool) → coded? (l .plan .size) (l .plan .radius) ≡ b →
+        LegWas l r (cond b (legRead l r (parse (l .old)) (parse (l .sheet))) (refusedLeg (l .name) BAD-PLAN 0 r))
+    by-coded true h = by-sheets h (parse (l .old)) (parse (l .sheet)) refl refl
+    by-coded false h = declined (bad-plan h)
 
 -- what was read is what was read
 pub same-read : (s : List ℕ) {f g : Formula} → parse s ≡ accepted f → parse s ≡ accepted g → f ≡ g
 same-read s d e = let both = sym d ∙ e in cc
 
--- on an accepted sheet and a record that it goes on from, a leg is one over balls
-pub leg-searched : (p : Plan) (A : ℕ) (s : List ℕ) (f : Formula) (r : Checkpoint) → Accepted p s f → Searched p f r →
-    legTo p A s r ≡ legEnd r (accepted (ballsLeg p A r f))
-unfolding legTo legBy legOn refuse-when _>>_ _>>=_
-leg-searched p A s f r h at =
-    rw (h .plan, h .sheet, at .balls, lt-leb (2 ^ 63) (centres p f) (at .few), at .same, lt-leb (centres p f) (r .next) (at .left))
+-- the sheet that is searched, and its plan, are accepted
+pub brings-accepted : {l : Leg} {g f : Formula} → Brings l g f → Accepted (l .plan) (l .sheet) f
+brings-accepted h = record { plan = h .plan; sheet = h .sheet }
 
 -- ---- what a record and a formula have in common
 
 -- a record of a search has its four numbers
-pub belongs-is : (b n : ℕ) (p : Plan) (r : Checkpoint) → belongs b n p r ≡ true →
-    (r .batch ≡ b) × (r .n ≡ n) × (r .size ≡ p .size) × (r .radius ≡ p .radius)
-unfolding belongs
-belongs-is b n p r e =
-    let low = and-left (eqb (r .batch) b && eqb (r .n) n) _ e in
-    let high = and-right (eqb (r .batch) b && eqb (r .n) n) _ e in (
-      eqb-true _ _ (and-left (eqb (r .batch) b) _ low),
-      eqb-true _ _ (and-right (eqb (r .batch) b) _ low),
+pub belongs-is : (f : Formula) (p : Plan) (r : Checkpoint) → belongs f p r ≡ true →
+    (r .batch ≡ f .batch) × (r .n ≡ f .n) × (r .size ≡ p .size) × (r .radius ≡ p .radius)
+unfolding belongs ofBatch ofPlan
+belongs-is f p r e =
+    let low = and-left (ofBatch f r) (ofPlan p r) e in
+    let high = and-right (ofBatch f r) (ofPlan p r) e in (
+      eqb-true _ _ (and-left (eqb (r .batch) (f .batch)) _ low),
+      eqb-true _ _ (and-right (eqb (r .batch) (f .batch)) _ low),
       eqb-true _ _ (and-left (eqb (r .size) (p .size)) _ high),
       eqb-true _ _ (and-right (eqb (r .size) (p .size)) _ high),
     )
 
 -- two formulas and plans of one record have the same
-pub belongs-both : (f g : Formula) (p q : Plan) (r : Checkpoint) → belongs (f .batch) (f .n) p r ≡ true →
-    belongs (g .batch) (g .n) q r ≡ true → (f .n ≡ g .n) × (p ≡ q)
+pub belongs-both : (f g : Formula) (p q : Plan) (r : Checkpoint) → belongs f p r ≡ true →
+    belongs g q r ≡ true → (f .n ≡ g .n) × (p ≡ q)
 belongs-both f g p q r h k =
-    let (_, n, s, t) = belongs-is (f .batch) (f .n) p r h in
-    let (_, n′, s′, t′) = belongs-is (g .batch) (g .n) q r k in
+    let (_, n, s, t) = belongs-is f p r h in
+    let (_, n′, s′, t′) = belongs-is g q r k in
     (sym n ∙ n′, ap₂ plan (sym s ∙ s′) (sym t ∙ t′))
 
-pub start-belongs : (p : Plan) (f : Formula) → belongs (f .batch) (f .n) p (start p f) ≡ true
-unfolding belongs start
+pub start-belongs : (p : Plan) (f : Formula) → belongs f p (start p f) ≡ true
+unfolding belongs ofBatch ofPlan start
 start-belongs p f = rw (eq-eqb (f .batch) (f .batch) refl, eq-eqb (f .n) (f .n) refl, eq-eqb (p .size) (p .size) refl, eq-eqb (p .radius) (p .radius) refl)
 
 -- ---- what the balls of a leg tell
@@ -170,60 +213,94 @@ answered-verdict b road (Answer.none c) e = omega arith
 answered-verdict b road (spent c) e = omega arith
 
 -- so that a leg by rounds or by balls is not refused
-pub rounds-answered : (p : Plan) (A : ℕ) (f : Formula) (r : Checkpoint) →
-    legEnd r (accepted (legged (judged p A f) r)) .reply .verdict ≡ REFUSED → ⊥
-unfolding legEnd about judged replyOf
+pub rounds-answered : (p : Plan) (A : ℕ) (f : Formula) (r : Checkpoint) → decidedLeg (judged p A f) r .reply .verdict ≡ REFUSED → ⊥
+unfolding decidedLeg about judged replyOf
 rounds-answered p A f r e = answered-verdict (f .batch) _ _ e
 
-pub balls-answered : (p : Plan) (A : ℕ) (f : Formula) (r : Checkpoint) →
-    legEnd r (accepted (ballsLeg p A r f)) .reply .verdict ≡ REFUSED → ⊥
-unfolding legEnd about ballsLeg replyOf
+pub balls-answered : (p : Plan) (A : ℕ) (f : Formula) (r : Checkpoint) → ballsLeg p A r f .reply .verdict ≡ REFUSED → ⊥
+unfolding decidedLeg about ballsLeg replyOf
 balls-answered p A f r e = answered-verdict (f .batch) _ _ e
 
 -- the leg by rounds, in numbers: those of a run
 pub rounds-end : (p : Plan) (A : ℕ) (s : List ℕ) (f : Formula) → Accepted p s f → (r : Checkpoint) →
-    legEnd r (accepted (legged (judged p A f) r)) ≡ record { reply = about 0 (replyTo p A s); checkpoint = r }
-unfolding legEnd replyTo decision decided
+    decidedLeg (judged p A f) r ≡ record { reply = about 0 (replyTo p A s); checkpoint = r }
+unfolding decidedLeg replyTo decision decided
 rounds-end p A s f h r = rw (h .plan, h .sheet)
 
 -- the leg of balls, in numbers
 abbrev pub ballsEnd : Formula → Checkpoint → Progress → LegEnd
 ballsEnd f r l = record { reply = about 0 (numbersOf (f .batch) BALLS (answered (l .answer))); checkpoint = movedTo r (l .next) }
 
-pub balls-end : (p : Plan) (A : ℕ) (f : Formula) (r : Checkpoint) →
-    legEnd r (accepted (ballsLeg p A r f)) ≡ ballsEnd f r (legOf (searchOf code p f) A (r .next))
-unfolding legEnd ballsLeg replyOf methodNumber
+pub balls-end : (p : Plan) (A : ℕ) (f : Formula) (r : Checkpoint) → ballsLeg p A r f ≡ ballsEnd f r (legOf (searchOf code p f) A (r .next))
+unfolding decidedLeg ballsLeg replyOf methodNumber
 balls-end p A f r = refl
 
--- What holds of whatever the balls may tell holds of the leg.
-pub leg-by-told : (P : LegEnd → Type 0) (p : Plan) (A : ℕ) (s : List ℕ) (f : Formula) (r : Checkpoint) → Accepted p s f → Searched p f r →
-    ((x : Progress) → Told (ball (searchOf code p f)) A (centres p f) 0 (r .next) x → P (ballsEnd f r x)) → P (legTo p A s r)
-leg-by-told P p A s f r h at told =
-    subst P (sym (leg-searched p A s f r h at ∙ balls-end p A f r)) (told _ (balls-told p A f r at))
+-- An answer by a method has its road.
+road-number : (b road : ℕ) (a : Answer) → numbersOf b road (answered a) .road ≡ road
+unfolding numbersOf
+road-number b road (clear m c) = refl
+road-number b road (Answer.none c) = refl
+road-number b road (spent c) = refl
 
--- A leg that is not refused has an accepted plan.
-pub leg-accepted : (p : Plan) (A : ℕ) (s : List ℕ) (f : Formula) (r : Checkpoint) → parse s ≡ accepted f →
-    (legTo p A s r .reply .verdict ≡ REFUSED → ⊥) → Accepted p s f
-unfolding legEnd about
-leg-accepted p A s f r e = go (leg-was p A s r)
+-- the road of a leg: none of a refusal, and one by rounds is not that of balls
+pub rounds-road : (p : Plan) (A : ℕ) (f : Formula) (r : Checkpoint) → isHorn (f .clauses) ≡ true → eqb (decidedLeg (judged p A f) r .reply .road) BALLS ≡ false
+unfolding decidedLeg about judged methodOf replyOf methodNumber
+rounds-road p A f r horn = rw (horn, road-number (f .batch) HORN) refl
+
+pub balls-road : (p : Plan) (A : ℕ) (f : Formula) (r : Checkpoint) → eqb (ballsLeg p A r f .reply .road) BALLS ≡ true
+unfolding decidedLeg about ballsLeg replyOf methodNumber
+balls-road p A f r = rw (road-number (f .batch) BALLS) refl
+
+-- A leg that is not refused has an accepted plan, and so has its sheet.
+pub leg-accepted : (l : Leg) (f : Formula) (r : Checkpoint) → parse (l .sheet) ≡ accepted f →
+    (takes r l .reply .verdict ≡ REFUSED → ⊥) → Accepted (l .plan) (l .sheet) f
+unfolding refusedLeg about
+leg-accepted l f r e = go (leg-was l r)
   where
-    go : {x : LegEnd} → LegWas p A s r x → (x .reply .verdict ≡ REFUSED → ⊥) → Accepted p s f
-    go (declined number place) n = absurd (n refl)
+    go : {x : LegEnd} → LegWas l r x → (x .reply .verdict ≡ REFUSED → ⊥) → Accepted (l .plan) (l .sheet) f
+    go (declined why) n = absurd (n refl)
     go (rounds-leg h horn) n = record { plan = h .plan; sheet = e }
-    go (balls-leg h at) n = record { plan = h .plan; sheet = e }
+    go (balls-leg h at st) n = record { plan = h .plan; sheet = e }
 
--- A leg on a formula that is not Horn, and not refused, has searched balls.
-pub leg-went : (p : Plan) (A : ℕ) (s : List ℕ) (f : Formula) (r : Checkpoint) → parse s ≡ accepted f → isHorn (f .clauses) ≡ false →
-    (legTo p A s r .reply .verdict ≡ REFUSED → ⊥) → Accepted p s f × Searched p f r
-unfolding legEnd about
-leg-went p A s f r e other = go (leg-was p A s r)
+-- A leg on a Horn formula, and not refused, has the verdict of a run.
+pub leg-rounds : (l : Leg) (f : Formula) (r : Checkpoint) → parse (l .sheet) ≡ accepted f → isHorn (f .clauses) ≡ true →
+    (takes r l .reply .verdict ≡ REFUSED → ⊥) → takes r l .reply .verdict ≡ replyTo (l .plan) (l .budget) (l .sheet) .verdict
+unfolding refusedLeg about
+leg-rounds l f r e horn = go (leg-was l r)
   where
-    go : {x : LegEnd} → LegWas p A s r x → (x .reply .verdict ≡ REFUSED → ⊥) → Accepted p s f × Searched p f r
-    go (declined number place) n = absurd (n refl)
+    go : {x : LegEnd} → LegWas l r x → (x .reply .verdict ≡ REFUSED → ⊥) → x .reply .verdict ≡ replyTo (l .plan) (l .budget) (l .sheet) .verdict
+    go (declined why) n = absurd (n refl)
+    go (rounds-leg {f = g} h horn′) n =
+        ap (λ (x : LegEnd). x .reply .verdict) (rounds-end (l .plan) (l .budget) (l .sheet) g (brings-accepted h) r)
+    go (balls-leg h at st) n =
+        let same = ap (λ (x : Formula). isHorn (x .clauses)) (same-read (l .sheet) e (h .sheet)) in
+        absurd (true≢false (sym horn ∙ same ∙ at .balls))
+
+-- A leg of balls on the formula f, which leaves e.
+pub record Went (l : Leg) (f : Formula) (r : Checkpoint) (e : LegEnd) : Type 0 where
+  pub accepted : Accepted (l .plan) (l .sheet) f
+  pub at : Searched (l .plan) f r
+  pub is : e ≡ ballsEnd f r (legOf (searchOf code (l .plan) f) (l .budget) (r .next))
+
+-- A leg on a formula that is not Horn, and not refused, is one.
+pub leg-went : (l : Leg) (f : Formula) (r : Checkpoint) → parse (l .sheet) ≡ accepted f → isHorn (f .clauses) ≡ false →
+    (takes r l .reply .verdict ≡ REFUSED → ⊥) → Went l f r (takes r l)
+unfolding refusedLeg about
+leg-went l f r e other = go (leg-was l r)
+  where
+    go : {x : LegEnd} → LegWas l r x → (x .reply .verdict ≡ REFUSED → ⊥) → Went l f r x
+    go (declined why) n = absurd (n refl)
     go (rounds-leg h horn) n =
-        let same = ap (λ (x : Formula). isHorn (x .clauses)) (same-read s (h .sheet) e) in
+        let same = ap (λ (x : Formula). isHorn (x .clauses)) (same-read (l .sheet) (h .sheet) e) in
         absurd (true≢false (sym horn ∙ same ∙ other))
-    go (balls-leg {f = g} h at) n = subst (λ (x : Formula). Accepted p s x × Searched p x r) (same-read s (h .sheet) e) (h, at)
+    go (balls-leg {f = f′} h at st) n =
+        subst (λ (x : Formula). Went l x r (ballsLeg (l .plan) (l .budget) r f′)) (same-read (l .sheet) (h .sheet) e)
+        (record { accepted = brings-accepted h; at = at; is = balls-end (l .plan) (l .budget) f′ r })
+
+-- What holds of whatever the balls may tell holds of the leg.
+pub leg-by-told : (P : LegEnd → Type 0) (l : Leg) (f : Formula) (r : Checkpoint) {e : LegEnd} → Went l f r e →
+    ((x : Progress) → Told (ball (searchOf code (l .plan) f)) (l .budget) (centres (l .plan) f) 0 (r .next) x → P (ballsEnd f r x)) → P e
+leg-by-told P l f r w told = subst P (sym (w .is)) (told _ (balls-told (l .plan) (l .budget) f r (w .at)))
 
 -- ---- legs in order
 
@@ -247,7 +324,7 @@ along {q = q} {f = f} P e e′ h = subst (λ (x : Formula). P q x) e′ (subst (
 
 -- Where a ball is left, the calls so far and the balls from the next one on give what the run gives.
 pub record Sums (p : Plan) (f : Formula) (r : Checkpoint) (total : ℕ) : Type 0 where
-  pub same : belongs (f .batch) (f .n) p r ≡ true
+  pub same : belongs f p r ≡ true
   pub sum : r .next < centres p f → plus total (rest (ball (searchOf code p f)) (centres p f) (r .next)) ≡ run (searchOf code p f)
 
 pub sums-start : (p : Plan) (f : Formula) → Sums p f (start p f) 0
@@ -256,8 +333,8 @@ sums-start p f = record { same = start-belongs p f; sum = λ l. plus-zero _ ∙ 
 
 -- the leg of balls keeps it
 sums-balls : (p : Plan) (A : ℕ) (f : Formula) (r : Checkpoint) (total : ℕ) → Searched p f r → Sums p f r total →
-    let e = legEnd r (accepted (ballsLeg p A r f)) in Sums p f (e .checkpoint) (total + e .reply .calls)
-unfolding about belongs countOf
+    let e = ballsLeg p A r f in Sums p f (e .checkpoint) (total + e .reply .calls)
+unfolding about belongs ofBatch ofPlan countOf
 sums-balls p A f r total h s = rw (balls-end p A f r, calls-number (f .batch) BALLS) (go (balls-told p A f r h))
   where
     go : {x : Progress} → Told (ball (searchOf code p f)) A (centres p f) 0 (r .next) x →
@@ -302,24 +379,24 @@ sums-last p A f r total h s = go (balls-told p A f r h)
 module _ (p : Plan) (f : Formula) (other : isHorn (f .clauses) ≡ false) where
   pub sums-step : (r : Checkpoint) (total : ℕ) (l : Leg) → Sums p f r total → OnOne f (turnOf r l) →
       Sums p f (takes r l .checkpoint) (total + takes r l .reply .calls)
-  unfolding legEnd about
-  sums-step r total l s on = go (leg-was (l .plan) (l .budget) (l .sheet) r) on
+  unfolding refusedLeg decidedLeg about
+  sums-step r total l s on = go (leg-was l r) on
     where
       stays : Sums p f r (total + 0)
       stays = rw add-zero s
 
-      go : {e : LegEnd} → LegWas (l .plan) (l .budget) (l .sheet) r e → OnOne f (record { leg = l; reply = e .reply }) →
+      go : {e : LegEnd} → LegWas l r e → OnOne f (record { leg = l; reply = e .reply }) →
           Sums p f (e .checkpoint) (total + e .reply .calls)
-      go (declined number place) q = stays
+      go (declined why) q = stays
       go (rounds-leg {f = g} h horn) (inl q) = absurd (rounds-answered (l .plan) (l .budget) g r q)
       go (rounds-leg {f = g} h horn) (inr q) =
           let same = ap (λ (x : Formula). isHorn (x .clauses)) (same-read _ (h .sheet) q) in
           absurd (true≢false (sym horn ∙ same ∙ other))
-      go (balls-leg {f = g} h at) (inl q) = absurd (balls-answered (l .plan) (l .budget) g r q)
-      go (balls-leg {f = g} h at) (inr q) =
+      go (balls-leg {f = g} h at st) (inl q) = absurd (balls-answered (l .plan) (l .budget) g r q)
+      go (balls-leg {f = g} h at st) (inr q) =
           let same : g ≡ f = same-read _ (h .sheet) q in
           let plans : l .plan ≡ p = belongs-both g f (l .plan) p r (at .same) (s .same) .1 in
-          let e = legEnd r (accepted (ballsLeg (l .plan) (l .budget) r g)) in
+          let e = ballsLeg (l .plan) (l .budget) r g in
           along (λ x y. Sums x y (e .checkpoint) (total + e .reply .calls)) plans same
           (sums-balls (l .plan) (l .budget) g r total at (along (λ x y. Sums x y r total) (sym plans) (sym same) s))
 
@@ -339,7 +416,7 @@ balls-empty p A f r formed h = go (balls-told p A f r h)
 
 -- Where a ball is left, no model of g is within R of the centres before it.
 pub record Empties (p : Plan) (g : Formula) (r : Checkpoint) : Type 0 where
-  pub same : belongs (g .batch) (g .n) p r ≡ true
+  pub same : belongs g p r ≡ true
   pub empty : r .next < centres p g → Emptied code p g 0 (r .next)
 
 pub empties-start : (p : Plan) (g : Formula) → Empties p g (start p g)
@@ -349,7 +426,7 @@ empties-start p g = record { same = start-belongs p g; empty = λ l x w l′ b b
 module _ (p : Plan) (g : Formula) where
   empties-balls : (A : ℕ) (f : Formula) (r : Checkpoint) → WellFormed f → f .n ≡ g .n → stands (f .clauses) (g .clauses) ≡ true →
       Searched p f r → Empties p g r → Empties p g (movedTo r (legOf (searchOf code p f) A (r .next) .next))
-  unfolding belongs
+  unfolding belongs ofBatch ofPlan
   empties-balls A f r formed n st h s = go (balls-told p A f r h)
     where
       all : centres p f ≡ centres p g
@@ -364,15 +441,15 @@ module _ (p : Plan) (g : Formula) where
 
   pub empties-step : (r : Checkpoint) (total : ℕ) (l : Leg) → Empties p g r → StandsIn g (turnOf r l) →
       Empties p g (takes r l .checkpoint)
-  unfolding legEnd about ballsLeg
-  empties-step r total l s on = go (leg-was (l .plan) (l .budget) (l .sheet) r) on
+  unfolding refusedLeg decidedLeg about ballsLeg
+  empties-step r total l s on = go (leg-was l r) on
     where
-      go : {e : LegEnd} → LegWas (l .plan) (l .budget) (l .sheet) r e → StandsIn g (record { leg = l; reply = e .reply }) →
+      go : {e : LegEnd} → LegWas l r e → StandsIn g (record { leg = l; reply = e .reply }) →
           Empties p g (e .checkpoint)
-      go (declined number place) q = s
+      go (declined why) q = s
       go (rounds-leg h horn) q = s
-      go (balls-leg {f = f} h at) (inl q) = absurd (balls-answered (l .plan) (l .budget) f r q)
-      go (balls-leg {f = f} h at) (inr (f′, q, st)) =
+      go (balls-leg {f = f} h at kept) (inl q) = absurd (balls-answered (l .plan) (l .budget) f r q)
+      go (balls-leg {f = f} h at kept) (inr (f′, q, st)) =
           let (n, plans) = belongs-both f g (l .plan) p r (at .same) (s .same) in
           let st′ = subst (λ (x : Formula). stands (x .clauses) (g .clauses) ≡ true) (same-read _ q (h .sheet)) st in
           let moves : (x : Plan) → x ≡ p → Searched x f r → Empties p g (movedTo r (legOf (searchOf code x f) (l .budget) (r .next) .next)) =
@@ -380,6 +457,55 @@ module _ (p : Plan) (g : Formula) where
           (λ (y : Plan). Searched y f r → Empties p g (movedTo r (legOf (searchOf code y f) (l .budget) (r .next) .next)))
           (sym e) (λ at″. empties-balls (l .budget) f r (parse-well-formed _ f (h .sheet)) n st′ at″ s) at′ in
           moves (l .plan) plans at
+
+-- ---- legs that follow on each other
+
+-- What was emptied before stays so on a sheet with further clauses.
+pub empties-grow : (p : Plan) (g h : Formula) (r : Checkpoint) (q : Plan) → Searched q h r → stands (g .clauses) (h .clauses) ≡ true → Empties p g r → Empties p h r
+empties-grow p g h r q at st s =
+    let (n, plans) = belongs-both h g q p r (at .same) (s .same) in
+    let all = ap (λ (x : ℕ). centreCount (blocks code p x)) n in
+    record {
+      same = subst (λ (x : Plan). belongs h x r ≡ true) plans (at .same);
+      empty = λ l. emptied-further code p g h 0 (r .next) (sym n) st (s .empty (omega (arith, all)));
+    }
+
+-- A leg that works no balls leaves the record;
+leg-idle : (r : Checkpoint) (l : Leg) → eqb (takes r l .reply .road) BALLS ≡ false → takes r l .checkpoint ≡ r
+unfolding refusedLeg decidedLeg
+leg-idle r l = go (leg-was l r)
+  where
+    go : {e : LegEnd} → LegWas l r e → eqb (e .reply .road) BALLS ≡ false → e .checkpoint ≡ r
+    go (declined why) road = refl
+    go (rounds-leg h horn) road = refl
+    go (balls-leg {f = f} h at st) road = absurd (true≢false (sym (balls-road (l .plan) (l .budget) f r) ∙ road))
+
+-- and one that does searches a formula in which the old one's clauses stand.
+pub leg-grows : (r : Checkpoint) (l : Leg) (g h : Formula) → parse (l .old) ≡ accepted g → parse (l .sheet) ≡ accepted h →
+    eqb (takes r l .reply .road) BALLS ≡ true → Searched (l .plan) h r × (stands (g .clauses) (h .clauses) ≡ true)
+unfolding refusedLeg about
+leg-grows r l g h old sheet = go (leg-was l r)
+  where
+    go : {e : LegEnd} → LegWas l r e → eqb (e .reply .road) BALLS ≡ true → Searched (l .plan) h r × (stands (g .clauses) (h .clauses) ≡ true)
+    go (declined why) road = absurd (true≢false (sym road))
+    go (rounds-leg {f = f} b horn) road = absurd (true≢false (sym road ∙ rounds-road (l .plan) (l .budget) f r horn))
+    go (balls-leg {g = g′} {f = f} b at st) road =
+        let first = same-read (l .old) (b .old) old in
+        let second = same-read (l .sheet) (b .sheet) sheet in (
+          subst (λ (x : Formula). Searched (l .plan) x r) second at,
+          subst (λ (x : Formula). stands (g .clauses) (x .clauses) ≡ true) second (subst (λ (x : Formula). stands (x .clauses) (f .clauses) ≡ true) first st),
+        )
+
+-- So legs that follow on each other have emptied the balls before the next one, for the formula searched last.
+pub empties-follow : (p : Plan) (ls : List Leg) (r : Checkpoint) (f g : Formula) → Empties p f r → Follow f (turns r ls) g → Empties p g (checkpointAfter r ls)
+unfolding turns checkpointAfter
+empties-follow p [] r f g s no-more = s
+empties-follow p (l ∷ ls) r f g s (Follow.idle road rest) =
+    empties-follow p ls (takes r l .checkpoint) f g (subst (Empties p f) (sym (leg-idle r l road)) s) rest
+empties-follow p (l ∷ ls) r f g s (Follow.searched {h = h} road old sheet rest) =
+    let (at, st) = leg-grows r l f h old sheet road in
+    let on = empties-step p h r 0 l (empties-grow p f h r (l .plan) at st s) (inr (h, sheet, stands-refl (h .clauses))) in
+    empties-follow p ls (takes r l .checkpoint) h g on rest
 
 -- ---- how many legs there are
 
@@ -403,7 +529,7 @@ balls-get-on p A f r formed at enough x t = told t
   where
     all : centresOf r ≡ centres p f
     all =
-        let (_, n, size, radius) = belongs-is (f .batch) (f .n) p r (at .same) in
+        let (_, n, size, radius) = belongs-is f p r (at .same) in
         ap₂ (λ (x : Plan) (y : ℕ). centreCount (blocks code x y)) (ap₂ plan size radius) n
 
     fits : calls (ball (searchOf code p f) (r .next)) ≤ A
@@ -425,64 +551,119 @@ balls-get-on p A f r formed at enough x t = told t
           spent = λ z. omega (arith, all);
         }
 
-pub gets-on : (r : Checkpoint) (l : Leg) → Enough (turnOf r l) → GetsOn r (takes r l)
-gets-on r l (kept, f, e, other, enough) =
-    let (h, at) = leg-went (l .plan) (l .budget) (l .sheet) f r e other kept in
-    leg-by-told (GetsOn r) (l .plan) (l .budget) (l .sheet) f r h at
-    (balls-get-on (l .plan) (l .budget) f r (parse-well-formed _ f e) at enough)
+pub gets-on : (r : Checkpoint) (l : Leg) (f : Formula) → parse (l .sheet) ≡ accepted f → isHorn (f .clauses) ≡ false →
+    (takes r l .reply .verdict ≡ REFUSED → ⊥) → powers (longest (f .clauses)) (summedRadius (blocks code (l .plan) (f .n))) ≤ l .budget →
+    GetsOn r (takes r l)
+gets-on r l f e other kept enough =
+    let w = leg-went l f r e other kept in
+    leg-by-told (GetsOn r) l f r w (balls-get-on (l .plan) (l .budget) f r (parse-well-formed _ f e) (w .at) enough)
 
--- From any record, legs that have enough are no more than the balls left; and where all are spent a ball is left.
-pub legs-fewer : (ls : List Leg) (r : Checkpoint) → r .next ≤ centresOf r → ((t : Turn) → In t (turns r ls) → Enough t) →
-    length ls + r .next ≤ centresOf r
-unfolding turns
-legs-fewer [] r h each = omega arith
-legs-fewer (l ∷ ls) r h each =
-    let on = gets-on r l (each _ (List·Memᴰ·head refl)) in
-    let next = legs-fewer ls (takes r l .checkpoint) (omega (arith, on .same, on .most)) (λ t i. each t (List·Memᴰ·tail i)) in
-    omega (arith, on .more, on .same)
+-- A leg that has enough worked balls and got on, or did not and left the record.
+data Gains (r : Checkpoint) (e : LegEnd) : Type 0 where
+  idle : eqb (e .reply .road) BALLS ≡ false → e .checkpoint ≡ r → Gains r e
+  gains : eqb (e .reply .road) BALLS ≡ true → GetsOn r e → Gains r e
 
-pub legs-spent : (ls : List Leg) (r : Checkpoint) → r .next < centresOf r → ((t : Turn) → In t (turns r ls) → Enough t) →
-    ((t : Turn) → In t (turns r ls) → t .reply .verdict ≡ SPENT) → length ls + r .next < centresOf r
-unfolding turns
-legs-spent [] r h each all = omega arith
-legs-spent (l ∷ ls) r h each all =
-    let on = gets-on r l (each _ (List·Memᴰ·head refl)) in
-    let here = on .spent (all _ (List·Memᴰ·head refl)) in
-    let next = legs-spent ls (takes r l .checkpoint) (omega (arith, on .same)) (λ t i. each t (List·Memᴰ·tail i)) (λ t i. all t (List·Memᴰ·tail i)) in
-    omega (arith, on .more, on .same)
+leg-gains : (r : Checkpoint) (l : Leg) → Enough (turnOf r l) → Gains r (takes r l)
+unfolding decidedLeg refusedLeg about
+leg-gains r l (kept, f, e, enough) = go (isHorn (f .clauses)) refl
+  where
+    rounds : isHorn (f .clauses) ≡ true → {x : LegEnd} → LegWas l r x → (x .reply .verdict ≡ REFUSED → ⊥) → Gains r x
+    rounds horn (declined why) n = absurd (n refl)
+    rounds horn (rounds-leg {f = g} h horn′) n = idle (rounds-road (l .plan) (l .budget) g r horn′) refl
+    rounds horn (balls-leg h at st) n =
+        let same = ap (λ (x : Formula). isHorn (x .clauses)) (same-read (l .sheet) e (h .sheet)) in
+        absurd (true≢false (sym horn ∙ same ∙ at .balls))
+
+    go : (b : Bool) → isHorn (f .clauses) ≡ b → Gains r (takes r l)
+    go true horn = rounds horn (leg-was l r) kept
+    go false other =
+        let w = leg-went l f r e other kept in
+        gains (ap (λ (x : LegEnd). eqb (x .reply .road) BALLS) (w .is ∙ sym (balls-end (l .plan) (l .budget) f r)) ∙ balls-road (l .plan) (l .budget) f r) (gets-on r l f e other kept (enough other))
+
+-- From any record, legs that have enough and work balls are no more than the balls left, less as many as each of them leaves.
+pub legs-room : (least : ℕ) (Q : Turn → Type 0) →
+    ((r : Checkpoint) (l : Leg) → Q (turnOf r l) → eqb (takes r l .reply .road) BALLS ≡ true → GetsOn r (takes r l) →
+    takes r l .checkpoint .next + least ≤ centresOf r) →
+    (ls : List Leg) (r : Checkpoint) → r .next + least ≤ centresOf r → ((t : Turn) → In t (turns r ls) → Enough t × Q t) →
+    ballLegs (turns r ls) + (r .next + least) ≤ centresOf r
+unfolding turns ballLegs count keep
+legs-room least Q leaves [] r h each = omega arith
+legs-room least Q leaves (l ∷ ls) r h each =
+    go (leg-gains r l (each _ (List·Memᴰ·head refl) .0))
+    (λ fits. legs-room least Q leaves ls (takes r l .checkpoint) fits (λ t i. each t (List·Memᴰ·tail i)))
+  where
+    after : Checkpoint
+    after = takes r l .checkpoint
+
+    go : Gains r (takes r l) → (after .next + least ≤ centresOf after → ballLegs (turns after ls) + (after .next + least) ≤ centresOf after) →
+        ballLegs (turns r (l ∷ ls)) + (r .next + least) ≤ centresOf r
+    go (idle road same) rest =
+        let more = subst (λ (x : Checkpoint). x .next + least ≤ centresOf x → ballLegs (turns after ls) + (x .next + least) ≤ centresOf x) same rest h in
+        rw (count-cons _ _ _, road) (rw zero-add more)
+    go (gains road on) rest =
+        let fits = leaves r l (each _ (List·Memᴰ·head refl) .1) road on in
+        let more = rest (omega (arith, on .same)) in
+        rw (count-cons _ _ _, road) (omega (arith, on .more, on .same))
 
 -- ---- larger budgets
 
-pub leg-same : (p : Plan) (A B : ℕ) (s : List ℕ) (r : Checkpoint) → A ≤ B → (legTo p A s r .reply .verdict ≡ SPENT → ⊥) →
-    legTo p B s r ≡ legTo p A s r
-unfolding legTo legBy legOn refuse-when _>>_ _>>=_ legEnd about legOf searchOf
-leg-same p A B s r l kept = go (leg-is p A s r) kept
-  where
-    balls-same : (f : Formula) → Searched p f r → ((d : ℕ) → legOf (searchOf code p f) A (r .next) .answer ≡ spent d → ⊥) →
-        legOf (searchOf code p f) B (r .next) ≡ legOf (searchOf code p f) A (r .next)
-    balls-same f at n =
-        let q = searchOf code p f in
-        leg-from (ball q) B (centres p f) (r .next)
-        ∙ leg-stays (ball q) A B (centres p f) 0 (r .next) (omega arith) l (omega (arith, at .left))
-        (λ d e. n d (ap (λ (x : Progress). x .answer) (leg-from (ball q) A (centres p f) (r .next)) ∙ e))
-        ∙ sym (leg-from (ball q) A (centres p f) (r .next))
+-- the leg with another budget
+abbrev pub withBudget : ℕ → Leg → Leg
+withBudget B l = record { plan = l .plan; budget = B; old = l .old; sheet = l .sheet; name = l .name }
 
-    go : {e : LegEnd} → LegIs p A s r e → (e .reply .verdict ≡ SPENT → ⊥) → legTo p B s r ≡ e
-    go (bad-plan h) n = rw h
-    go (bad-sheet h e) n = rw (h, e)
-    go (too-many h o m) n = rw (h .plan, h .sheet, o, le-leb _ _ m)
-    go (other-search {f = f} h o m b) n = rw (h .plan, h .sheet, o, lt-leb (2 ^ 63) (centres p f) m, b)
-    go (finished {f = f} h o m b e) n = rw (h .plan, h .sheet, o, lt-leb (2 ^ 63) (centres p f) m, b, le-leb (centres p f) (r .next) e)
-    go (by-rounds {f = f} h horn) n =
-        let first : legTo p B s r ≡ legEnd r (accepted (legged (judged p B f) r)) = rw (h .plan, h .sheet, horn) in
-        let told = ap (λ (e : LegEnd). e .reply .verdict) (rounds-end p A s f h r) in
-        first
-        ∙ rounds-end p B s f h r
-        ∙ ap (λ (x : Reply). record { reply = about 0 x; checkpoint = r }) (reply-stays p A B s l (λ v. n (told ∙ v)))
-        ∙ sym (rounds-end p A s f h r)
-    go (by-balls {f = f} h at) n =
-        let told = ap (λ (e : LegEnd). e .reply .verdict) (balls-end p A f r) in
-        leg-searched p B s f r h at
-        ∙ balls-end p B f r
-        ∙ ap (ballsEnd f r) (balls-same f at (λ d e. n (told ∙ spent-number (f .batch) BALLS _ .1 (d, e))))
-        ∙ sym (balls-end p A f r)
+pub leg-same : (l : Leg) (B : ℕ) (r : Checkpoint) → l .budget ≤ B → (takes r l .reply .verdict ≡ SPENT → ⊥) → takes r (withBudget B l) ≡ takes r l
+unfolding takes legRead legOn unless-declined about legOf searchOf
+leg-same l B r small = by-coded (coded? (l .plan .size) (l .plan .radius)) refl
+  where
+    -- what it leaves with either budget
+    Same : LegEnd → LegEnd → Type 0
+    Same e x = (e .reply .verdict ≡ SPENT → ⊥) → x ≡ e
+
+    legs-same : (f : Formula) → r .next < centres (l .plan) f →
+        ((d : ℕ) → legOf (searchOf code (l .plan) f) (l .budget) (r .next) .answer ≡ spent d → ⊥) →
+        legOf (searchOf code (l .plan) f) B (r .next) ≡ legOf (searchOf code (l .plan) f) (l .budget) (r .next)
+    legs-same f left n =
+        let q = searchOf code (l .plan) f in
+        leg-from (ball q) B (centres (l .plan) f) (r .next)
+        ∙ leg-stays (ball q) (l .budget) B (centres (l .plan) f) 0 (r .next) (omega arith) small (omega (arith, left))
+        (λ d e. n d (ap (λ (x : Progress). x .answer) (leg-from (ball q) (l .budget) (centres (l .plan) f) (r .next)) ∙ e))
+        ∙ sym (leg-from (ball q) (l .budget) (centres (l .plan) f) (r .next))
+
+    rounds-same : (f : Formula) → Accepted (l .plan) (l .sheet) f →
+        Same (decidedLeg (judged (l .plan) (l .budget) f) r) (decidedLeg (judged (l .plan) B f) r)
+    rounds-same f h n =
+        let told = ap (λ (e : LegEnd). e .reply .verdict) (rounds-end (l .plan) (l .budget) (l .sheet) f h r) in
+        rounds-end (l .plan) B (l .sheet) f h r
+        ∙ ap (λ (x : Reply). record { reply = about 0 x; checkpoint = r })
+        (reply-stays (l .plan) (l .budget) B (l .sheet) small (λ v. n (told ∙ v)))
+        ∙ sym (rounds-end (l .plan) (l .budget) (l .sheet) f h r)
+
+    balls-same : (f : Formula) → r .next < centres (l .plan) f → Same (ballsLeg (l .plan) (l .budget) r f) (ballsLeg (l .plan) B r f)
+    balls-same f left n =
+        let told = ap (λ (e : LegEnd). e .reply .verdict) (balls-end (l .plan) (l .budget) f r) in
+        balls-end (l .plan) B f r
+        ∙ ap (ballsEnd f r) (legs-same f left (λ d e. n (told ∙ spent-number (f .batch) BALLS _ .1 (d, e))))
+        ∙ sym (balls-end (l .plan) (l .budget) f r)
+
+    by-checks : (g f : Formula) (c : Check) →
+        checks (l .name) (centres (l .plan) f) (l .plan) r g f (firstLacking headerWords (g .clauses) (f .clauses)) ≡ c →
+        Same (unless-declined c r (ballsLeg (l .plan) (l .budget) r f)) (unless-declined c r (ballsLeg (l .plan) B r f))
+    by-checks g f (Declined sheet number place) e n = refl
+    by-checks g f Passed e n = balls-same f (checks-fine _ _ _ _ _ _ _ e .left) n
+
+    by-horn : (g f : Formula) → Accepted (l .plan) (l .sheet) f → (b : Bool) → isHorn (f .clauses) ≡ b →
+        Same (legOn (l .name) (l .plan) (l .budget) r g f) (legOn (l .name) (l .plan) B r g f)
+    by-horn g f h true e = rw e (rounds-same f h)
+    by-horn g f h false e = rw e (by-checks g f _ refl)
+
+    by-sheets : coded? (l .plan .size) (l .plan .radius) ≡ true → (x y : Result Formula) → parse (l .sheet) ≡ y →
+        Same (legRead l r x y) (legRead (withBudget B l) r x y)
+    by-sheets h (refused number place) y e n = refl
+    by-sheets h (accepted g) (refused number place) e n = refl
+    by-sheets h (accepted g) (accepted f) e n = by-horn g f (record { plan = h; sheet = e }) (isHorn (f .clauses)) refl n
+
+    by-coded : (b : Bool) → coded? (l .plan .size) (l .plan .radius) ≡ b →
+        Same (cond b (legRead l r (parse (l .old)) (parse (l .sheet))) (refusedLeg (l .name) BAD-PLAN 0 r))
+        (cond b (legRead (withBudget B l) r (parse (l .old)) (parse (l .sheet))) (refusedLeg (l .name) BAD-PLAN 0 r))
+    by-coded true h n = by-sheets h (parse (l .old)) (parse (l .sheet)) refl n
+    by-coded false h n = refl

@@ -1,6 +1,7 @@
 -- The definitions and laws of the crate engine.
 pub mod Answers
 pub mod Legs
+pub mod LegRefusals
 pub mod Replies
 pub mod Right
 pub mod Demands

@@ -21,6 +21,8 @@ pub use legs::LegEnd;
 pub use legs::LegReply;
 pub use legs::leg;
 pub use legs::leg_by_value;
+pub use legs::leg_longer;
+pub use legs::leg_longer_by_value;
 use tree::Found;
 use words::Assignment;
 use words::Refusal;

@@ -11,6 +11,8 @@ pub mod ParseAccepted
 pub mod ParseRefused
 pub mod ParseReason
 pub mod SetLaws
+pub mod LackingLaws
+pub mod MaskLaws
 pub mod ModelLaws
 pub mod CountLaws
 pub mod SignLaws

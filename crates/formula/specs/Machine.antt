@@ -1,8 +1,9 @@
 -- What the machine reads and leaves: the table of clauses, the answers of the reader, and what each of its parts is given and leaves.
 use mathlib.Core.Path.{_≡_}
 use mathlib.Core.Bool.{cond}
-use mathlib.Core.List.{List, map}
-use Prim.Native.Nat.{ℕ, _+_, _-_, _*_, _≤_, _<_}
+use mathlib.Core.List.{List, [], _∷_, map}
+use Prim.Native.Nat.{ℕ, _+_, _-_, _*_, _%_, _^_, _≤_, _<_}
+use lib.Bits.{bitOr}
 use lib.Dec.{eqb}
 use lib.ListN.{length, getD, take, drop}
 use Rattle.words.specs.Lists.{span}
@@ -13,7 +14,7 @@ use Rattle.formula.specs.declared.Taken.{Taken}
 use Rattle.formula.specs.declared.Taken.the-variants.{Number, Refused as Stopped}
 use Rattle.formula.specs.declared.Reading.{Reading}
 use Rattle.formula.specs.declared.Reading.the-variants.{Accepted, Refused}
-use Rattle.formula.specs.Formula.{Clause, Formula, names, literalOf, lengthLimit, clauseLimit, WellFormedClause}
+use Rattle.formula.specs.Formula.{Clause, Formula, names, literalWord, literalOf, lengthLimit, clauseLimit, WellFormedClause}
 use Rattle.formula.specs.Sheet.{Result, accepted, refused, kind, value, parse}
 
 -- ---- the table
@@ -67,6 +68,21 @@ pub record Rows (k : ℕ) (cells : List ℕ) : Type 0 where
   pub size : length cells ≡ cellCount
   pub room : k ≤ clauseLimit
   pub short : (i : ℕ) → i < k → lengthAt cells i ≤ lengthLimit
+
+-- ---- masks of clauses
+
+-- A bit for each literal, by what is left of its word: the same sets have the same masks.
+abbrev pub maskBits : ℕ
+maskBits = 64
+
+unfoldable pub maskOf : Clause → ℕ
+maskOf [] = 0
+maskOf (l ∷ c) = bitOr (2 ^ (literalWord l % maskBits)) (maskOf c)
+
+-- There is a number for each clause, and those of the first k are their masks.
+pub record Masks (k : ℕ) (cells masks : List ℕ) : Type 0 where
+  pub size : length masks ≡ clauseLimit
+  pub each : (i : ℕ) → i < k → getD masks i 0 ≡ maskOf (clauseAt cells i)
 
 -- ---- the whole sheet
 

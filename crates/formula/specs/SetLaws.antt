@@ -1,15 +1,17 @@
 -- Laws of clauses as sets: what the tests mean by membership alone; that further clauses take models away and bring none;
 -- and that having the same clauses is an equivalence and keeps the models.
 use mathlib.Core.Path.{_≡_, refl, sym, ap, _∙_}
-use mathlib.Core.Logic.{_↔_}
-use mathlib.Core.Bool.{Bool, true, false, Bool·beq}
-use mathlib.Core.List.{List}
-use Prim.Native.Nat.{ℕ}
+use mathlib.Core.Logic.{_↔_, _⊎_, inl, inr}
+use mathlib.Core.Bool.{Bool, true, false, not, Bool·beq, true≢false}
+use mathlib.Core.List.{List, [], _∷_, List·Memᴰ·head, List·Memᴰ·tail, List·Memᴰ·cases-cons, List·Memᴰ·not-nil}
+use Prim.Native.Nat.{ℕ, _≤_, _<_}
+use native.Mathlib.Omega.{arith}
 use lib.Dec.{eqb}
-use borrow.Author.Tests.{eq-eqb, eqb-true}
-use Rattle.words.specs.Lists.{In, some}
-use Rattle.words.specs.ListLaws.{every-in, in-every, some-in, in-some, and-left, and-right, and-both, beq-true, both-ways}
-use Rattle.formula.specs.Formula.{Literal, Clause, met, someMet, allTrue, literalWord, literalOf}
+use lib.ListN.{length}
+use borrow.Author.Tests.{eq-eqb, eqb-true, not-true}
+use Rattle.words.specs.Lists.{In, some, keep}
+use Rattle.words.specs.ListLaws.{every-in, in-every, some-in, in-some, in-keep, length-keep, and-left, and-right, and-both, refute, beq-true, both-ways}
+use Rattle.formula.specs.Formula.{Literal, Clause, met, someMet, allTrue, names, once, literalWord, literalOf}
 use Rattle.formula.specs.ParseAccepted.{word-literal}
 use Rattle.formula.specs.Sets.{sameLiteral, within, sameSet, stands, sameClauses}
 
@@ -57,6 +59,33 @@ sameSet-means c d = (
   λ h. and-both (within c d) (within d c) (within-means c d .1 (λ l. h l .0)) (within-means d c .1 (λ l. h l .1)),
 )
 
+-- what fails a test is not kept
+keep-drops : {A : Type 0} (p : A → Bool) (xs : List A) (x : A) → In x xs → p x ≡ false → length (keep p xs) < length xs
+unfolding keep
+keep-drops p [] x i e = absurd (List·Memᴰ·not-nil i)
+keep-drops p (y ∷ xs) x i e = go (keep-drops p xs x) (p y) refl (List·Memᴰ·cases-cons i)
+  where
+    go : (In x xs → p x ≡ false → length (keep p xs) < length xs) → (b : Bool) → p y ≡ b → (x ≡ y) ⊎ In x xs →
+        length (keep p (y ∷ xs)) < length (y ∷ xs)
+    go rest true h (inl same) = absurd (true≢false (sym h ∙ ap p (sym same) ∙ e))
+    go rest true h (inr j) = rw h (let l = rest j e in omega arith)
+    go rest false h k = rw h (let l = length-keep p xs in omega arith)
+
+-- A clause that names no variable twice is no longer than one that has all its literals.
+pub within-length : (c d : Clause) → once c ≡ true → ((l : Literal) → In l c → In l d) → length c ≤ length d
+unfolding once names
+within-length [] d o h = omega arith
+within-length (l ∷ c) d o h =
+    let others : Literal → Bool = λ x. not (eqb (x .variable) (l .variable)) in
+    let new : names (l .variable) c ≡ false = not-true _ (and-left (not (names (l .variable) c)) (once c) o) in
+    let rest = within-length c (keep others d) (and-right (not (names (l .variable) c)) (once c) o)
+    (λ x i. in-keep others d x (h x (List·Memᴰ·tail i)) (ap not (differs x i new))) in
+    let fewer = keep-drops others d l (h l (List·Memᴰ·head refl)) (ap not (eq-eqb (l .variable) (l .variable) refl)) in
+    omega arith
+  where
+    differs : (x : Literal) → In x c → names (l .variable) c ≡ false → eqb (x .variable) (l .variable) ≡ false
+    differs x i new = refute _ (λ e. true≢false (sym (in-some (λ y. eqb (y .variable) (l .variable)) c x i e) ∙ new))
+
 -- ---- one list of clauses standing in another
 
 -- Each clause of cs has the same literals as some clause of ds.
@@ -72,6 +101,9 @@ stands-means cs ds = (
       in-every (λ c. some (sameSet c) ds) cs
       (λ c i. let (d, j, s) = h c i in in-some (sameSet c) ds d j (sameSet-means c d .1 s)),
 )
+
+pub stands-refl : (cs : List Clause) → stands cs cs ≡ true
+stands-refl cs = stands-means cs cs .1 (λ c i. (c, i, λ l. (λ j. j, λ j. j)))
 
 -- A model of ds is a model of every list of clauses that stands in ds.
 pub stands-model : (cs ds : List Clause) → stands cs ds ≡ true → (m : ℕ) → allTrue m ds ≡ true → allTrue m cs ≡ true

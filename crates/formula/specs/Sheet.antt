@@ -50,8 +50,11 @@ abbrev pub halfLimit : ℕ
 halfLimit = 65535
 
 -- The longest sheet has 9,219 words, its header's three and for each clause its length and its literals: 36,876 bytes.
+abbrev pub headerWords : ℕ
+headerWords = 3
+
 abbrev pub wordLimit : ℕ
-wordLimit = 3 + clauseLimit * (1 + lengthLimit)
+wordLimit = headerWords + clauseLimit * (1 + lengthLimit)
 
 abbrev pub byteLimit : ℕ
 byteLimit = 4 * wordLimit
@@ -168,7 +171,7 @@ take-header ws = do
 unfoldable pub take-formula : (ws : List ℕ) → Result Formula
 take-formula ws = do
   f ← take-header ws
-  cs ← take-clauses (f .n) clauseLimit 3 (drop 3 ws)
+  cs ← take-clauses (f .n) clauseLimit headerWords (drop headerWords ws)
   accepted (record { batch = f .batch; n = f .n; clauses = cs })
 
 -- ---- the whole sheet

@@ -6,7 +6,8 @@ mod table;
 
 pub use literal::literal_word;
 pub use literal::meets;
-pub use sets::clause_stands;
+pub use sets::Lacking;
+pub use sets::first_lacking;
 pub use sets::same_clauses;
 pub use table::empty_table;
 pub use table::length_at;
@@ -50,8 +51,13 @@ pub const ROW_CELLS: usize = 1 + LENGTH_LIMIT as usize;
 
 pub const CELLS: usize = CLAUSE_LIMIT as usize * ROW_CELLS;
 
-// The limits of the sheet in words, three of them its header's, and in bytes.
-const WORD_LIMIT: u32 = 3 + CLAUSE_LIMIT * (1 + LENGTH_LIMIT);
+// One number for each clause.
+const CLAUSES: usize = CLAUSE_LIMIT as usize;
+
+// The words before the first clause; the limits of the sheet in words and in bytes.
+const HEADER_WORDS: u32 = 3;
+
+const WORD_LIMIT: u32 = HEADER_WORDS + CLAUSE_LIMIT * (1 + LENGTH_LIMIT);
 
 pub const BYTE_LIMIT: usize = 4 * WORD_LIMIT as usize;
 

@@ -1,23 +1,26 @@
 -- What a leg over balls has shown, for a formula, a plan and any covering code: a ball in which nothing is found has no model in reach,
 -- what is found is one, and a ball takes no more calls than a tree of its depth can.
 use mathlib.Core.Path.{_≡_, refl, sym, _∙_}
+use mathlib.Core.Logic.{⊎-elim}
 use mathlib.Core.Bool.{Bool, true, false, true≢false, false≢true}
+use mathlib.Core.List.{List}
 use Prim.Native.Nat.{ℕ, _^_, _≤_, _<_}
 use native.Mathlib.Omega.{arith}
 use lib.Dec.{ltb}
 use lib.Pow.{pow-pos}
 use borrow.Author.Tests.{ltb-true, ltb-false}
+use Rattle.words.specs.Lists.{In}
 use Rattle.words.specs.BitLaws.{bit-zero}
 use Rattle.words.specs.ListLaws.{refute}
-use Rattle.formula.specs.Formula.{Formula, WellFormed, allTrue, Satisfiable}
+use Rattle.formula.specs.Formula.{Clause, Formula, WellFormed, allTrue, Satisfiable, once}
 use Rattle.formula.specs.Sets.{stands}
-use Rattle.formula.specs.SetLaws.{stands-model}
+use Rattle.formula.specs.SetLaws.{stands-means, stands-model, within-length}
 use Rattle.tree.specs.Explore.{found, calls, powers}
 use Rattle.tree.specs.TreeLaws.{try-gives}
 use Rattle.tree.specs.BudgetLaws.{rest}
 use Rattle.tree.specs.LegLaws.{Nothing}
 use Rattle.search.specs.Run.{Plan, Code, blocks, searchOf, summedRadius, centreCount, ball, longest, Emptied}
-use Rattle.search.specs.RuleLaws.{Agrees, ball-gives, ball-hit, ball-calls}
+use Rattle.search.specs.RuleLaws.{Agrees, ball-gives, ball-hit, ball-calls, longest-in, longest-reached}
 use Rattle.search.specs.CentreLaws.{Covering, centre-near, blocks-size, blocks-covered}
 use Rattle.search.specs.RunLaws.{Fit, start-lt, fit}
 
@@ -74,3 +77,15 @@ emptied-join code p f i j k low high x w l b below near = go (ltb x j) refl
     go : (t : Bool) → ltb x j ≡ t → allTrue w (f .clauses) ≡ false
     go true e = low x w l (ltb-true x j e) below near
     go false e = high x w (ltb-false x j e) b below near
+
+-- Further clauses do not make the longest one shorter.
+pub stands-longest : (cs ds : List Clause) → ((c : Clause) → In c cs → once c ≡ true) → stands cs ds ≡ true → longest cs ≤ longest ds
+stands-longest cs ds single st =
+    ⊎-elim
+    (λ none. omega arith)
+    (λ (c, i, e).
+    let (d, j, same) = stands-means cs ds .0 st c i in
+    let short = within-length c d (single c i) (λ l. same l .0) in
+    let most = longest-in ds d j in
+    omega arith)
+    (longest-reached cs)

@@ -4,7 +4,7 @@ use mathlib.Core.Logic.{_⊎_, inl, inr, ⊎-elim}
 use mathlib.Core.Bool.{Bool, true, false}
 use mathlib.Core.List.{List, [], _∷_, List·Memᴰ·head, List·Memᴰ·tail, List·Memᴰ·not-nil, List·Memᴰ·cases-cons}
 use Prim.Native.Nat.{ℕ, zero, suc, _+_, _*_, _^_, _≤_}
-use native.Mathlib.Nat.{le-refl, le-trans, le-of-suc-le-suc, add-zero, zero-add, zero-mul, one-mul, mul-add, mul-le-mul-right, pow-zero, pow-suc, mul-comm}
+use native.Mathlib.Nat.{le-refl, le-trans, le-of-suc-le-suc, add-zero, zero-add, zero-mul, one-mul, mul-add, mul-le-mul-right, add-le-add, pow-zero, pow-suc, pow-le-pow-left, mul-comm}
 use native.Mathlib.Numerals.{add-one}
 use native.Mathlib.Omega.{arith}
 use lib.ListN.{length}
@@ -136,6 +136,12 @@ powers-most k zero h = rw powers-zero (le-refl 1)
 powers-most k (suc r) h =
     let more : 1 * powers k r ≤ k * powers k r = mul-le-mul-right (powers k r) h in
     rw powers-suc (omega (arith, one-mul (powers k r), powers-most k r h))
+
+-- and with a larger k they are no fewer.
+pub powers-more : {j k : ℕ} (r : ℕ) → j ≤ k → powers j r ≤ powers k r
+unfolding powers
+powers-more {j} {k} zero h = rw (pow-zero j, pow-zero k) (le-refl 1)
+powers-more (suc r) h = add-le-add (powers-more r h) (pow-le-pow-left h (suc r))
 
 -- ---- a list in order
 

@@ -5,6 +5,7 @@ use crate::Case;
 use crate::Counts;
 use crate::LARGEST_BUDGET;
 use crate::counted;
+use crate::growth::try_growth;
 use crate::more;
 use crate::print_number;
 use crate::print_pair;
@@ -38,7 +39,7 @@ struct Search {
     checkpoint: Checkpoint,
 }
 
-fn start(case: Case) -> Checkpoint {
+pub fn start(case: Case) -> Checkpoint {
     Checkpoint {
         batch: case.batch,
         n: case.n,
@@ -53,7 +54,7 @@ fn same_checkpoint(a: Checkpoint, b: Checkpoint) -> bool {
 }
 
 // A leg's reply, with the calls of the legs before.
-fn added(calls: u32, reply: LegReply) -> Reply {
+pub fn added(calls: u32, reply: LegReply) -> Reply {
     Reply {
         verdict: reply.verdict,
         batch: reply.batch,
@@ -68,7 +69,7 @@ fn added(calls: u32, reply: LegReply) -> Reply {
     }
 }
 
-fn leg(sheet: &[u8], case: Case, budget: u32, checkpoint: Checkpoint) -> LegEnd {
+pub fn leg(sheet: &[u8], case: Case, budget: u32, checkpoint: Checkpoint) -> LegEnd {
     engine::leg_by_value(case.size, case.radius, budget, sheet, checkpoint)
 }
 
@@ -145,7 +146,7 @@ fn ended(sheet: &[u8], case: Case, checkpoint: Checkpoint) -> bool {
 }
 
 // Legs that disagree: how many they were, and what they came to.
-fn report_legs(case: Case, legs: u64, reply: Reply, counts: Counts) -> Counts {
+pub fn report_legs(case: Case, legs: u64, reply: Reply, counts: Counts) -> Counts {
     print_number(b"sheet ", case.number as u64);
     print_number(b" legs ", legs);
     print_pair(b" plan ", case.size, b" ", case.radius);
@@ -153,14 +154,14 @@ fn report_legs(case: Case, legs: u64, reply: Reply, counts: Counts) -> Counts {
     counts.with_leg_disagreement()
 }
 
-// The search by balls, in about eight legs where its balls are small.
+// The search by balls, in about eight legs where its balls are small; and then while it grows.
 fn try_search(sheet: &[u8], case: Case, random: Random, counts: Counts) -> Counts {
     let run = engine::run(case.size, case.radius, LARGEST_BUDGET, sheet);
     let search = search_in_legs(sheet, case, run.calls / 4 + 1, random);
     let reply = search.reply;
     let checkpoint = search.checkpoint;
     if search.within && same(reply, run) && ended(sheet, case, checkpoint) {
-        return counts.with_search(search.legs);
+        return try_growth(sheet, case, random, run, counts.with_search(search.legs));
     }
     report_legs(case, search.legs, reply, counts)
 }

@@ -2,11 +2,12 @@
 // sheets Horn or nearly so, every plan, and budgets below, at and above the calls needed; and each
 // sheet by splitting too. Each answer is compared with a trial of all assignments that shares
 // nothing with the search: also the least model of a Horn sheet, and the first that splitting finds.
-// Half of the sheets are decided in legs too, which are compared with a run.
+// Half of the sheets are decided in legs too, which are compared with a run, and while they grow.
 // It prints every run that disagrees, and counts.
 // The counts record how many sheets of each kind the fixed generator makes; that no run disagrees
 // is what is tested.
 mod brute;
+mod growth;
 mod legs;
 mod sheets;
 
@@ -49,7 +50,8 @@ struct Case {
 
 // How many sheets agreed, by road and verdict (Horn sheets are never spent here, and splitting never
 // is); how many runs with another budget agreed; and how many runs did not. Then of the sheets in
-// legs: how many Horn sheets agreed, how many searches, the legs of these, and how many did not.
+// legs: how many Horn sheets agreed, how many searches, the legs of these, and how many did not; and
+// of those that grew how many agreed, went on from a later ball, and had other calls than a run.
 struct Counts {
     split_clear: u64,
     split_none: u64,
@@ -64,6 +66,9 @@ struct Counts {
     searches: u64,
     legs: u64,
     leg_disagreements: u64,
+    growths: u64,
+    later: u64,
+    other_sums: u64,
 }
 
 struct Trial {
@@ -92,6 +97,9 @@ impl Counts {
             searches: 0,
             legs: 0,
             leg_disagreements: 0,
+            growths: 0,
+            later: 0,
+            other_sums: 0,
         }
     }
 
@@ -155,6 +163,17 @@ impl Counts {
         self
     }
 
+    fn with_growth(mut self, next: u64, same_sum: bool) -> Counts {
+        self.growths = more(self.growths);
+        if 0 < next {
+            self.later = more(self.later);
+        }
+        if !same_sum {
+            self.other_sums = more(self.other_sums);
+        }
+        self
+    }
+
     fn with_leg_disagreement(mut self) -> Counts {
         self.leg_disagreements = more(self.leg_disagreements);
         self
@@ -180,6 +199,9 @@ fn print_counts(counts: Counts) {
     print_number(b" searches ", counts.searches);
     print_number(b" legs ", counts.legs);
     print_number(b" disagreements ", counts.leg_disagreements);
+    print_number(b"\ngrown ", counts.growths);
+    print_number(b" from a later ball ", counts.later);
+    print_number(b" with other calls ", counts.other_sums);
     io::write_all(STDOUT_FILENO, b"\n");
 }
 

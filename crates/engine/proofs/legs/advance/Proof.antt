@@ -2,7 +2,7 @@
 use mathlib.Core.Path.{_∙_}
 use borrow.Author.Needs.{needs}
 use Rattle.search.specs.Machine.{progressIn}
-use Rattle.engine.specs.Legs.{legEnd}
+use Rattle.engine.specs.Legs.{decidedLeg}
 use Rattle.engine.specs.Machine.{decisionIn, progressEnd}
 use Rattle.engine.proofs.legs.advance.Statement.{statement}
 use Rattle.engine.proofs.legs.advance.Tie as tie
@@ -17,7 +17,7 @@ end-leg-requires : tie.Need-end-leg-requires
 end-leg-requires c κs = search needs
 
 returns : tie.Need-returns
-unfolding progressEnd progressIn decisionIn legEnd
+unfolding progressEnd progressIn decisionIn decidedLeg
 returns c = c .end-leg .ensures ∙ rw (c .before .settled .ensures, c .before .before .next-ball .ensures)
 
 pub advance-spec : {M : Type 1} → statement M

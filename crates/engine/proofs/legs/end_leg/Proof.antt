@@ -2,7 +2,7 @@
 use mathlib.Core.Path.{ap, _∙_}
 use borrow.Author.Needs.{needs}
 use Rattle.engine.specs.declared.legs.LegReply.{LegReply}
-use Rattle.engine.specs.Legs.{about, legEnd}
+use Rattle.engine.specs.Legs.{about, decidedLeg}
 use Rattle.engine.proofs.legs.end_leg.Statement.{statement}
 use Rattle.engine.proofs.legs.end_leg.Tie as tie
 
@@ -13,7 +13,7 @@ about-requires : tie.Need-about-requires
 about-requires c κs = search needs
 
 returns : tie.Need-returns
-unfolding legEnd
+unfolding decidedLeg
 returns c =
     let reply = c .about .ensures ∙ ap (about 0) (c .before .numbers .ensures) in
     ap (λ (x : LegReply). record { reply = x; checkpoint = c .before .before .args .checkpoint }) reply

@@ -1,17 +1,18 @@
--- `leg_by_balls` meets its contract: the codes are made once, M is their product, then the refusals in order, and the balls.
+-- `leg_by_balls` meets its contract: the codes are made once, M is their product, then the checks, and the balls where all pass.
 use mathlib.Core.Path.{_≡_, sym, ap, _∙_}
 use mathlib.Core.List.{List}
-use Prim.Native.Nat.{ℕ, _^_, _<_, min}
+use Prim.Native.Nat.{ℕ, _^_, min}
 use native.Mathlib.Omega.{arith}
 use borrow.Author.Needs.{needs}
-use borrow.Author.Tests.{not-true, not-false}
 use Rattle.formula.specs.Formula.{Formula}
-use Rattle.search.specs.Run.{Block, plan, centreCount, legOf}
+use Rattle.search.specs.Run.{Block, Search, plan, centreCount, legOf}
 use Rattle.search.specs.Machine.{blocksIn, searchIn, progressIn}
 use Rattle.search.specs.LayoutLaws.{extent-is}
-use Rattle.engine.specs.Legs.{centres}
-use Rattle.engine.specs.Machine.{formulaIn}
-use Rattle.engine.specs.MachineLaws.{leg-too-many, leg-other, leg-finished, leg-moved-on}
+use Rattle.engine.specs.declared.legs.Check.the-variants.{Passed}
+use Rattle.engine.specs.Legs.{centres, checks}
+use Rattle.engine.specs.LegLaws.{Fine, checks-fine}
+use Rattle.engine.specs.Machine.{formulaIn, headerIn}
+use Rattle.engine.specs.MachineLaws.{checks-cut, leg-declines, leg-moved-on, search-in}
 use Rattle.engine.proofs.legs.leg_by_balls.Statement.{statement}
 use Rattle.engine.proofs.legs.leg_by_balls.Tie as tie
 
@@ -26,9 +27,6 @@ lay-out-requires c κs = search needs
 
 centres-requires : tie.Need-centres-requires
 centres-requires c κs = search needs
-
-refuse-leg-requires : tie.Need-refuse-leg-requires
-refuse-leg-requires c κs = search needs
 
 -- with the centres counted: where the layout was made, what the function was given, and M
 module _ (c : tie.After-centres) where
@@ -50,62 +48,68 @@ module _ (c : tie.After-centres) where
       c .centres .ensures
       ∙ ap (λ (x : ℕ). min x (2 ^ 63)) (sym (extent-is _ _ _ (laid .lay-out .ensures .laying .laid)) ∙ counted)
 
-returns : tie.Need-returns
-returns c =
-    let m = c .before .before in
-    c .refuse-leg .ensures ∙ leg-too-many _ _ _ _ _ _ _ (entry m .pre .0 .2) _ (cut m) (c .before .if1 .taken)
+check-leg-requires : tie.Need-check-leg-requires
+check-leg-requires c κs = search needs
 
-belongs-requires : tie.Need-belongs-requires
-belongs-requires c κs = search needs
+enum-told : tie.Need-enum-told
+enum-told c = search needs
 
-refuse-leg-requires-2 : tie.Need-refuse-leg-requires-2
-refuse-leg-requires-2 c κs = search needs
+-- what the checks said: of M as it is
+module _ (c : tie.After-check-leg) where
+  abbrev m : tie.After-centres
+  m = c .before
 
-returns-2 : tie.Need-returns-2
-returns-2 c =
-    let asked = c .before .before in
-    let m = asked .before .before in
-    c .refuse-leg2 .ensures
-    ∙ leg-other _ _ _ _ _ _ _ (entry m .pre .0 .2) _ (cut m) (omega (arith, asked .before .if1 .left))
-    (sym (asked .belongs .ensures) ∙ not-true _ (c .before .if2 .taken))
+  said : c .check-leg .result
+      ≡ (let a = entry m .args in
+      checks (a .before .name) (centres (plan (a .size) (a .radius)) (formula m)) (plan (a .size) (a .radius)) (a .checkpoint)
+      (headerIn (a .before .batch) (a .before .n)) (formula m) (a .before .lacking))
+  said = c .check-leg .ensures ∙ checks-cut _ _ _ _ _ _ _ _ (cut m)
 
-refuse-leg-requires-3 : tie.Need-refuse-leg-requires-3
-refuse-leg-requires-3 c κs = search needs
-
-returns-3 : tie.Need-returns-3
-returns-3 c =
-    let other = c .before .before in
-    let asked = other .before in
-    let m = asked .before .before in
-    c .refuse-leg3 .ensures
-    ∙ leg-finished _ _ _ _ _ _ _ (entry m .pre .0 .2) _ (cut m) (omega (arith, asked .before .if1 .left))
-    (sym (asked .belongs .ensures) ∙ not-false _ (other .if2 .left)) (c .before .if3 .taken)
+  passed : c .check-leg .result ≡ Passed →
+      let a = entry m .args in
+      Fine (centres (plan (a .size) (a .radius)) (formula m)) (plan (a .size) (a .radius)) (a .checkpoint) (headerIn (a .before .batch) (a .before .n)) (formula m) (a .before .lacking)
+  passed e = checks-fine _ _ _ _ _ _ _ (sym said ∙ e)
 
 leg-requires : tie.Need-leg-requires
 leg-requires c κs =
-    let m = c .before .before .before .before .before .before in
+    let checked = c .before .before .before .before in
+    let m = checked .before in
     let pre = entry m .pre .0 in
-    let few = c .before .before .before .before .before .if1 .left in
-    ((pre .0, pre .1), (laid m .lay-out .ensures .laying, omega (arith, few, c .before .before .if3 .left)))
+    let fine = passed checked (c .before .before .enum-told .given .1) in
+    ((pre .0, pre .1), (laid m .lay-out .ensures .laying, omega (arith, fine .few, fine .left, cut m)))
 
 advance-requires : tie.Need-advance-requires
 advance-requires c κs = search needs
 
-returns-4 : tie.Need-returns-4
-returns-4 c =
+enum-known-sheet : tie.Need-enum-known-sheet
+enum-known-sheet c = search needs
+
+refuse-leg-requires : tie.Need-refuse-leg-requires
+refuse-leg-requires c κs = search needs
+
+returns : tie.Need-returns
+returns c =
     let legged = c .before in
-    let left = legged .before .before .before in
-    let other = left .before in
-    let asked = other .before in
-    let m = asked .before .before in
+    let told = legged .before .before .before in
+    let checked = told .before .before in
+    let m = checked .before in
     let a = entry m .args in
-    let few : m .centres .result < 2 ^ 63 = omega (arith, asked .before .if1 .left) in
-    let every : m .centres .result ≡ centres (plan (a .size) (a .radius)) (formula m) = omega (arith, cut m) in
-    let same = sym (asked .belongs .ensures) ∙ not-false _ (other .if2 .left) in
-    let all = ap (λ (bs : List Block). legOf (searchIn (a .k) (a .cells .now) bs) (a .budget) (a .checkpoint .next)) (laid m .lay-out .ensures .same) in
+    let fine = passed checked (told .enum-told .given .1) in
+    let every : m .centres .result ≡ centres (plan (a .size) (a .radius)) (formula m) = omega (arith, cut m, fine .few) in
+    let all =
+    ap (λ (bs : List Block). legOf (searchIn (a .k) (a .cells .now) bs) (a .budget) (a .checkpoint .next)) (laid m .lay-out .ensures .same)
+    ∙ ap (λ (q : Search). legOf q (a .budget) (a .checkpoint .next)) (search-in _ (a .batch) (a .n) (a .k) (a .cells .now)) in
     c .advance .ensures
-    ∙ leg-moved-on _ _ _ _ _ _ _ (entry m .pre .0 .2) _ (cut m) few same (omega (arith, left .if3 .left)) _
+    ∙ leg-moved-on (a .before) _ _ _ (formula m) (sym (said checked) ∙ told .enum-told .given .1) _
     (ap (λ (x : ℕ). progressIn x (legged .leg .result)) (every ∙ sym (counted m)) ∙ legged .leg .ensures ∙ all)
+
+returns-2 : tie.Need-returns-2
+returns-2 c =
+    let told = c .before .before in
+    let checked = told .before .before in
+    let a = entry (checked .before) .args in
+    c .refuse-leg .ensures
+    ∙ leg-declines (a .before) _ _ _ (formula (checked .before)) _ _ _ (sym (said checked) ∙ told .sheet .given .1)
 
 pub leg-by-balls-spec : {M : Type 1} → statement M
 leg-by-balls-spec =
@@ -115,13 +119,11 @@ leg-by-balls-spec =
     cells-requires-2
     lay-out-requires
     centres-requires
-    refuse-leg-requires
-    returns
-    belongs-requires
-    refuse-leg-requires-2
-    returns-2
-    refuse-leg-requires-3
-    returns-3
+    check-leg-requires
+    enum-told
     leg-requires
     advance-requires
-    returns-4)
+    enum-known-sheet
+    refuse-leg-requires
+    returns
+    returns-2)

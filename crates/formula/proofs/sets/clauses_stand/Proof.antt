@@ -1,65 +1,27 @@
--- `sets::clauses_stand` meets its contract: before each turn, whether all clauses of a stand in b depends on those from i on.
-use mathlib.Core.Path.{_≡_, refl, sym, _∙_}
-use Prim.Native.Nat.{_-_}
-use native.Mathlib.Omega.{arith}
-use lib.ListN.{drop}
+-- `sets::clauses_stand` meets its contract: all clauses stand where none is lacking.
+use mathlib.Core.Path.{sym, ap, _∙_}
 use borrow.Author.Needs.{needs}
-use borrow.Author.Tests.{not-true, not-false}
-use Rattle.formula.specs.Machine.{held}
-use Rattle.formula.specs.Sets.{stands}
-use Rattle.words.specs.ListLaws.{every-fails, every-next, every-holds}
-use Rattle.formula.specs.TableLaws.{held-cons, held-end, rows-row}
+use Rattle.formula.specs.Sheet.{headerWords}
+use Rattle.formula.specs.LackingLaws.{lacksNone, lacking-stands}
 use Rattle.formula.proofs.sets.clauses_stand.Statement.{statement}
 use Rattle.formula.proofs.sets.clauses_stand.Tie as tie
 
-abbrev Inv-loop : tie.InvT-loop
-Inv-loop a of-a b of-b i₀ i = stands (drop i (held of-a a)) (held of-b b) ≡ stands (held of-a a) (held of-b b)
+first-lacking-requires : tie.Need-first-lacking-requires
+first-lacking-requires c κs = search needs
 
-abbrev μ-loop : tie.MeasureT-loop
-μ-loop a of-a b of-b i₀ i = of-a - i
+enum-told : tie.Need-enum-told
+enum-told c = search needs
 
-loop-holds : tie.Need-loop-holds Inv-loop μ-loop
-loop-holds c = refl
+enum-told-2 : tie.Need-enum-told-2
+enum-told-2 c = search needs
 
-clause-stands-requires : tie.Need-clause-stands-requires Inv-loop μ-loop
-clause-stands-requires c κs = let s = c .before .before in (rows-row (s .pre .0) (c .before .loop .i) (omega arith), s .pre .1)
+returns : tie.Need-returns
+unfolding lacksNone
+returns c = ap lacksNone (sym (c .enum-told .given .1) ∙ c .before .before .first-lacking .ensures) ∙ lacking-stands headerWords _ _
 
-returns : tie.Need-returns Inv-loop μ-loop
-unfolding stands
-returns c =
-    let b = c .before .before .before in
-    every-fails _ _ (b .loop .i) (b .loop .inv) (held-cons (b .before .args .of-a) _ (b .loop .i) (omega arith))
-    (sym (c .before .clause-stands .ensures) ∙ not-true _ (c .if1 .taken))
-
-add-i : tie.Need-add-i Inv-loop μ-loop
-add-i c = search needs
-
-loop-less : tie.Need-loop-less Inv-loop μ-loop
-loop-less c = search needs
-
-loop-again : tie.Need-loop-again Inv-loop μ-loop
-unfolding stands
-loop-again c =
-    let b = c .before .before .before in
-    every-next _ _ (b .loop .i) (b .loop .inv) (held-cons (b .before .args .of-a) _ (b .loop .i) (omega arith))
-    (sym (c .before .clause-stands .ensures) ∙ not-false _ (c .if1 .left))
-
-returns-2 : tie.Need-returns-2 Inv-loop μ-loop
-unfolding stands
-returns-2 c =
-    let b = c .before in
-    every-holds _ _ (b .loop .i) (b .loop .inv) (held-end (b .before .args .of-a) _ (b .loop .i) (omega arith))
+returns-2 : tie.Need-returns-2
+unfolding lacksNone
+returns-2 c = ap lacksNone (sym (c .enum-told2 .given .1) ∙ c .before .before .first-lacking .ensures) ∙ lacking-stands headerWords _ _
 
 pub clauses-stand-spec : {M : Type 1} → statement M
-clauses-stand-spec =
-    tie.close
-    (tie.spec
-    Inv-loop
-    μ-loop
-    loop-holds
-    clause-stands-requires
-    returns
-    add-i
-    loop-less
-    loop-again
-    returns-2)
+clauses-stand-spec = tie.close (tie.spec first-lacking-requires enum-told enum-told-2 returns returns-2)

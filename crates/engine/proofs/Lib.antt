@@ -1,0 +1,2 @@
+-- What proofs of the crate engine share.
+pub mod Lent
