@@ -1,5 +1,7 @@
 // Alike: whether two sheets have the same number of variables and the same clauses, each taken as
 // a set of literals.
+#![tactic(auto)]
+
 ghost use Rattle.std.specs.Prelude.{◌≡◌, cond, ℕ};
 ghost use Rattle.formula.specs.Sheet.{accepted, parse};
 ghost use Rattle.formula.specs.Machine.{held, Table};
@@ -14,7 +16,7 @@ const FIRST: u32 = 1;
 const SECOND: u32 = 2;
 
 // What two sheets are to each other, or the first refusal and the sheet that it is about.
-#[derive(Drop)]
+#[derive(Clone, Copy)]
 pub enum Comparison {
     Alike,
     Different,

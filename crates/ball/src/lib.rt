@@ -1,4 +1,6 @@
 // The search in one ball, within a budget of calls.
+#![tactic(auto)]
+
 mod ball;
 mod choice;
 pub mod counts;

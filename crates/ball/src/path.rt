@@ -11,7 +11,7 @@ use words::{Assignment, Set};
 
 // Where a call stands: the assignment, the variables flipped on the way to it, and those that are
 // forced to stay: of their literals that are not met each has a lone opposite.
-#[derive(Drop)]
+#[derive(Clone, Copy)]
 pub struct Path {
     pub assignment: Assignment,
     pub flipped: Set,

@@ -11,7 +11,7 @@ ghost use Rattle.ball.specs.Machine.{reading_in, Counted};
 use words::Assignment;
 
 // How many literals of a clause are met, and how many are open.
-#[derive(Drop)]
+#[derive(Clone, Copy)]
 pub struct Reading {
     pub met: u32,
     pub open: u32,

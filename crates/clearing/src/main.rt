@@ -1,5 +1,7 @@
 // The program of paper 01: reads the plan and the budget as three 32-bit words, low byte first, and
 // then a sheet, and prints the engine's answer on one line.
+#![tactic(auto)]
+
 ghost use Rattle.std.specs.Prelude.{◌≡◌};
 ghost use Rattle.clearing.specs.Program.{program_reply};
 

@@ -1,5 +1,7 @@
 // Covering codes, ball volumes and the sphere covering bound: the operations `code`, `volume` and
 // `floor`, exact on every input.
+#![tactic(auto)]
+
 mod greedy;
 mod volumes;
 
@@ -22,7 +24,7 @@ pub const BAD_PLAN: u32 = 8;
 const SHORT_TABLE: u32 = 9;
 
 // What an operation answers: its number, or why it declines.
-#[derive(Drop)]
+#[derive(Clone, Copy)]
 pub enum Answer {
     Number(u32),
     Refused(Refusal),

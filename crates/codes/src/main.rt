@@ -1,6 +1,8 @@
 // Runs the crate `code` over all its small inputs and some large ones: every code by its size and a
 // checksum of its words, every volume and floor, every refusal, and the cells that stay as they
 // were. expect.py beside src/ works out what it must write, on its own.
+#![tactic(auto)]
+
 ghost use Rattle.std.specs.Prelude.{◌≡◌, length};
 
 use code::Answer;

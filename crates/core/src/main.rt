@@ -1,6 +1,8 @@
 // What collides in a sheet that gets none (02, paper 13): reads what the program `clearing` reads,
 // and prints the answer on one line and, for a none, the numbers of the clauses of a minimal core on
 // a second.
+#![tactic(auto)]
+
 ghost use Rattle.core.specs.Prelude.{◌≡◌, length};
 ghost use Rattle.decision.specs.Answers.{reply_of};
 ghost use Rattle.deletion.specs.Core.{list_after};

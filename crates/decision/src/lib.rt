@@ -1,4 +1,6 @@
 // A sheet decided by a plan within a budget, or by splitting, and the numbers of a decision.
+#![tactic(auto)]
+
 ghost use Rattle.std.specs.Prelude.{◌≡◌, ◌≤◌, length};
 ghost use Rattle.words.specs.Bits.{width};
 ghost use Rattle.words.specs.Machine.{bits_of};
@@ -29,7 +31,7 @@ pub const HORN: u32 = 1;
 pub const BALLS: u32 = 2;
 
 // What became of a sheet, with what belongs to it.
-#[derive(Drop)]
+#[derive(Clone, Copy)]
 pub enum Verdict {
     Clear(Assignment, u32),
     None(u32),
@@ -39,7 +41,7 @@ pub enum Verdict {
 
 // How a sheet was decided: by rounds where it is Horn, and otherwise by balls. A refusal names no
 // method, and neither does splitting, which is asked for.
-#[derive(Drop)]
+#[derive(Clone, Copy)]
 pub enum Method {
     Unnamed,
     Horn,
@@ -47,7 +49,7 @@ pub enum Method {
 }
 
 // The verdict, with the batch number and the method beside it.
-#[derive(Drop)]
+#[derive(Clone, Copy)]
 pub struct Decision {
     pub batch: u32,
     pub method: Method,
@@ -57,7 +59,7 @@ pub struct Decision {
 // A decision as numbers, for a host in C (include/engine.h): the words of the assignment are an
 // array there.
 #[repr(C)]
-#[derive(Drop)]
+#[derive(Clone, Copy)]
 pub struct Reply {
     pub verdict: u32,
     pub batch: u32,

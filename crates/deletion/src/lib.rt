@@ -1,5 +1,7 @@
 // Minimal unsatisfiable cores by deletion: which clauses collide in a sheet that gets none (02,
 // paper 13).
+#![tactic(auto)]
+
 mod numbers;
 
 ghost use Rattle.std.specs.Prelude.{◌≡◌, [], ◌≤◌, length};
@@ -22,7 +24,7 @@ use words::Refusal;
 pub const SHORT_LIST: u32 = 14;
 
 // What going through the clauses comes to: the numbers kept, from a cell on, or a run that is spent.
-#[derive(Drop)]
+#[derive(Clone, Copy)]
 enum Sifted {
     Kept(usize),
     Stopped(Decision),

@@ -39,7 +39,7 @@ pub fn put_rows(
 
 // What is done after the run without a clause: the numbers kept stand from a cell on now, or the
 // work ends.
-#[derive(Drop)]
+#[derive(Clone, Copy)]
 pub enum Step {
     Next(usize),
     End,

@@ -20,7 +20,7 @@ pub const DIFFERENT: u32 = 2;
 
 // The number asked for, or a refusal; what does not belong to the answer is 0.
 #[repr(C)]
-#[derive(Drop)]
+#[derive(Clone, Copy)]
 pub struct NumberReply {
     pub result: u32,
     pub number: u32,
@@ -29,7 +29,7 @@ pub struct NumberReply {
 
 // What two sheets are to each other, or a refusal and the sheet that it is about.
 #[repr(C)]
-#[derive(Drop)]
+#[derive(Clone, Copy)]
 pub struct AlikeReply {
     pub answer: u32,
     pub sheet: u32,
@@ -39,7 +39,7 @@ pub struct AlikeReply {
 
 // How many literals of a clause are met and how many are open, or a refusal.
 #[repr(C)]
-#[derive(Drop)]
+#[derive(Clone, Copy)]
 pub struct CountsReply {
     pub met: u32,
     pub open: u32,
@@ -49,7 +49,7 @@ pub struct CountsReply {
 
 // Nothing refused, or a refusal.
 #[repr(C)]
-#[derive(Drop)]
+#[derive(Clone, Copy)]
 pub struct TallyReply {
     pub number: u32,
     pub place: u32,

@@ -1,5 +1,7 @@
 // The engine: a sheet decided by a plan within a budget, in legs, or by splitting, for Rattle and
 // for C.
+#![tactic(auto)]
+
 mod exports;
 
 ghost use Rattle.std.specs.Prelude.{◌≡◌, length};

@@ -1,5 +1,7 @@
 // The sheet's reader: from bytes to the clauses in a table, or to a refusal (paper 01, "The
 // sheet"). Beside it the table's rows, and clauses as sets.
+#![tactic(auto)]
+
 mod literal;
 mod sets;
 mod table;
@@ -68,21 +70,21 @@ pub const UNKNOWN_VARIABLE: u32 = 6;
 pub const REPEATED_VARIABLE: u32 = 7;
 
 // A word taken where a kind is due: its value if it is of that kind.
-#[derive(Drop)]
+#[derive(Clone, Copy)]
 enum Word {
     Value(u32),
     Other,
 }
 
 // A number that was read, or the refusal that ends the reading.
-#[derive(Drop)]
+#[derive(Clone, Copy)]
 enum Taken {
     Number(u32),
     Refused(Refusal),
 }
 
 // The reading of a whole sheet.
-#[derive(Drop)]
+#[derive(Clone, Copy)]
 pub enum Reading {
     Accepted { batch: u32, n: u32, clauses: usize },
     Refused(Refusal),

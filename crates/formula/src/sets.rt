@@ -10,7 +10,7 @@ use crate::table::{length_at, literal_at};
 use crate::{CELLS, CLAUSES, HEADER_WORDS};
 
 // The place in its sheet of a clause that another sheet lacks, where it lacks one.
-#[derive(Drop)]
+#[derive(Clone, Copy)]
 pub enum Lacking {
     Nothing,
     At(u32),

@@ -1,4 +1,6 @@
 // Horn formulas, decided by rounds from the assignment 0 within a budget of rounds.
+#![tactic(auto)]
+
 ghost use Rattle.std.specs.Prelude.{◌≡◌, true, ◌≤◌, leb, length};
 ghost use Rattle.words.specs.Bits.{width};
 ghost use Rattle.formula.specs.Machine.{Table, Row, Rows as TableRows, IsLiteral, clause_at, held};

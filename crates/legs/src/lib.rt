@@ -1,5 +1,7 @@
 // One leg of a search of which the host keeps the checkpoint, on one sheet or on an old one and a
 // longer one.
+#![tactic(auto)]
+
 ghost use Rattle.std.specs.Prelude.{◌≡◌, false, List, ℕ, ◌≤◌};
 ghost use Rattle.words.specs.Bits.{width};
 ghost use Rattle.formula.specs.Sheet.{accepted, parse};
@@ -31,7 +33,7 @@ const LONGER: u32 = 2;
 
 // A checkpoint: the batch number, n and the plan of the search, and the next ball.
 #[repr(C)]
-#[derive(Drop)]
+#[derive(Clone, Copy)]
 pub struct Checkpoint {
     pub batch: u32,
     pub n: u32,
@@ -42,7 +44,7 @@ pub struct Checkpoint {
 
 // The fields of a reply, and the sheet that a refusal is about.
 #[repr(C)]
-#[derive(Drop)]
+#[derive(Clone, Copy)]
 pub struct LegReply {
     pub verdict: u32,
     pub batch: u32,
@@ -58,7 +60,7 @@ pub struct LegReply {
 }
 
 // What a leg leaves.
-#[derive(Drop)]
+#[derive(Clone, Copy)]
 pub struct LegEnd {
     pub reply: LegReply,
     pub checkpoint: Checkpoint,
@@ -83,7 +85,7 @@ fn about(sheet: u32, reply: Reply) -> LegReply
 }
 
 // What a check says: passed, or a refusal and the sheet that it is about.
-#[derive(Drop)]
+#[derive(Clone, Copy)]
 pub enum Check {
     Passed,
     Declined { sheet: u32, number: u32, place: u32 },
@@ -91,7 +93,7 @@ pub enum Check {
 
 // What came before a sheet that is searched: the batch number and n of the old sheet, and which of
 // its clauses is lacking now; and the number of the sheet that is searched, in refusals.
-#[derive(Drop)]
+#[derive(Clone, Copy)]
 pub struct Before {
     pub name: u32,
     pub batch: u32,

@@ -1,4 +1,6 @@
 // The line that the programs print for a reply (paper 01, "Settled examples").
+#![tactic(auto)]
+
 use decision::Reply;
 use libc::STDOUT_FILENO;
 

@@ -1,4 +1,6 @@
 // Two numbers for each clause in bit planes, moved at each flip; what is counted is the caller's.
+#![tactic(auto)]
+
 mod clause_sets;
 
 ghost use Rattle.std.specs.Prelude.{◌≡◌, true, false, ◌||◌, List, ℕ, ◌+◌, ◌*◌, ◌≤◌, ◌<◌, eqb, leb, length, get_or};
@@ -37,14 +39,14 @@ const SECOND: usize = ROW;
 
 // The words of two literals: a number goes up in the clauses that hold one, and down in those that
 // hold the other.
-#[derive(Drop)]
+#[derive(Clone, Copy)]
 pub struct Rows {
     pub up: u32,
     pub down: u32,
 }
 
 // The counts of 64 clauses: plane p has binary digit p of each, one lane a clause.
-#[derive(Drop)]
+#[derive(Clone, Copy)]
 pub struct Planes {
     pub p0: u64,
     pub p1: u64,
@@ -105,7 +107,7 @@ impl Planes {
 }
 
 // The kinds of clauses by their two numbers.
-#[derive(Drop)]
+#[derive(Clone, Copy)]
 pub enum Kind {
     // The first is 0.
     Zero,

@@ -69,7 +69,7 @@ pub fn flips(occ: &[u64; OCCURRENCES], k: usize, planes: &[u64; PLANES], radius:
 
 // What some balls come to within a budget. Where that is spent, the ball that did not fit is `next`,
 // and not counted; elsewhere `next` says nothing.
-#[derive(Drop)]
+#[derive(Clone, Copy)]
 pub struct Progress {
     pub found: Found,
     pub next: u64,

@@ -9,7 +9,7 @@ use words::Assignment;
 
 // The blocks of a plan: `whole` blocks of `size` variables, and a last one where `last` is not 0.
 // The counts are the numbers of their code words.
-#[derive(Drop)]
+#[derive(Clone, Copy)]
 pub struct Layout {
     pub size: u32,
     pub radius: u32,
@@ -21,7 +21,7 @@ pub struct Layout {
 
 // A centre in the making: the bits of the blocks so far, where the next block's go, and what is
 // left of the centre's number.
-#[derive(Drop)]
+#[derive(Clone, Copy)]
 pub struct Partial {
     pub assignment: Assignment,
     pub shift: u32,

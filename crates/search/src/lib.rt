@@ -1,4 +1,6 @@
 // The search over all balls of a covering code, within a budget of calls.
+#![tactic(auto)]
+
 mod balls;
 mod centre;
 mod layout;

@@ -1,4 +1,6 @@
 // Plain splitting within a budget of calls: the variables are set in order, each as 0 and then as 1.
+#![tactic(auto)]
+
 mod clauses;
 
 ghost use Rattle.std.specs.Prelude.{◌≡◌, List, ℕ, ◌≤◌};

@@ -1,5 +1,7 @@
 // A tally beside an assignment, which the host keeps and lends with the sheet (02, paper 2): for
 // each clause the number of its met literals, and the number of clauses that are false.
+#![tactic(auto)]
+
 mod number;
 
 ghost use Rattle.std.specs.Prelude.{◌≡◌, length};
@@ -20,7 +22,7 @@ pub const NUMBERS: usize = formula::CLAUSE_LIMIT as usize;
 pub const NO_SUCH_VARIABLE: u32 = 10;
 
 // What an operation comes to.
-#[derive(Drop)]
+#[derive(Clone, Copy)]
 pub enum Outcome {
     Done,
     Refused(Refusal),

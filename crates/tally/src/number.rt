@@ -12,7 +12,7 @@ use words::{Assignment, least, wide_u8};
 
 // What becomes of the clauses' numbers: they are counted under an assignment, or moved after the
 // toggle of a variable that made it.
-#[derive(Drop)]
+#[derive(Clone, Copy)]
 pub enum Change {
     Count(Assignment),
     Toggle(Assignment, u32),

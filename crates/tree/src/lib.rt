@@ -1,11 +1,13 @@
 // What every search within a budget of calls gives. The definitions of searches, their laws, and
 // what follows for an engine that decides are in specs/.
+#![tactic(auto)]
+
 ghost use Rattle.std.specs.Prelude.{◌≡◌, leb};
 
 use words::Assignment;
 
 // What a search gives within its budget, with the calls made.
-#[derive(Drop)]
+#[derive(Clone, Copy)]
 pub enum Found {
     Clear(Assignment, u32),
     None(u32),

@@ -6,6 +6,8 @@
 // It prints every run that disagrees, and counts.
 // The counts record how many sheets of each kind the fixed generator makes; that no run disagrees
 // is what is tested.
+#![tactic(auto)]
+
 mod brute;
 mod growth;
 mod parked;
@@ -28,7 +30,7 @@ const LARGEST_BUDGET: u32 = 4294967295;
 
 // A sheet by its number, the plan that it is tried with or whether it is split, and what its answer
 // is compared with.
-#[derive(Drop)]
+#[derive(Clone, Copy)]
 struct Case {
     number: u32,
     split: bool,
@@ -46,7 +48,7 @@ struct Case {
 // is); how many runs with another budget agreed; and how many runs did not. Then of the sheets in
 // legs: how many Horn sheets agreed, how many searches, the legs of these, and how many did not; and
 // of those that grew how many agreed, went on from a later ball, and had other calls than a run.
-#[derive(Drop)]
+#[derive(Clone, Copy)]
 struct Counts {
     split_clear: u64,
     split_none: u64,
@@ -66,7 +68,7 @@ struct Counts {
     other_sums: u64,
 }
 
-#[derive(Drop)]
+#[derive(Clone, Copy)]
 struct Trial {
     random: Random,
     counts: Counts,

@@ -23,7 +23,7 @@ const FINISHED: u32 = 12;
 
 // A search after some legs: whether each kept within its budget, the last reply, but with the calls
 // of all, and the checkpoint. No later leg has a budget below `least`.
-#[derive(Drop)]
+#[derive(Clone, Copy)]
 struct Search {
     random: Random,
     least: u32,

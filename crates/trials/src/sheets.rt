@@ -7,7 +7,7 @@ ghost use Rattle.trials.specs.Bounds.{Bounded, Roomy};
 const DRAWS: u32 = 32;
 
 // A source of numbers (xorshift); its state is never 0.
-#[derive(Drop)]
+#[derive(Clone, Copy)]
 pub struct Random {
     pub state: u64,
 }
@@ -42,7 +42,7 @@ fn either(first: bool, a: Random, b: Random) -> Random {
 
 // What is drawn for a sheet before its clauses. Where it is Horn, its clauses have at most one
 // positive literal, but for the clause `other`.
-#[derive(Drop)]
+#[derive(Clone, Copy)]
 pub struct Shape {
     pub random: Random,
     pub horn: bool,
@@ -56,7 +56,7 @@ pub struct Shape {
 
 // A sheet in the making: where the next clause begins, and the source as it was before a clause
 // that may be repeated.
-#[derive(Drop)]
+#[derive(Clone, Copy)]
 pub struct Draft {
     pub random: Random,
     pub again: Random,
@@ -65,7 +65,7 @@ pub struct Draft {
 
 // A clause in the making: its variables by sign, and their number. Where it is Horn, all variables
 // after a positive one are negative.
-#[derive(Drop)]
+#[derive(Clone, Copy)]
 struct Clause {
     random: Random,
     horn: bool,

@@ -1,5 +1,7 @@
 // Reads named sheets from standard input and prints what the reader says of each, one line a
 // sheet. `expect.py` makes both the input and the output that is expected.
+#![tactic(auto)]
+
 ghost use Rattle.std.specs.Prelude.{◌≤◌, ◌<◌};
 ghost use Rattle.std.proofs.Math.ListN;
 ghost use Rattle.formula.specs.Machine.{Row, Rows};

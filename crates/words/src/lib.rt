@@ -1,5 +1,7 @@
 // The bits of an assignment and of a set of variables, the records that every layer above shares,
 // and small functions of numbers.
+#![tactic(auto)]
+
 ghost use Rattle.std.specs.Prelude.{◌≡◌, not, ◌&&◌, ◌||◌, ℕ, ◌+◌, ◌*◌, ◌^◌, ◌<◌, min, length, get_or, set};
 ghost use Rattle.words.specs.Bits.{bit, toggle, width, from_words};
 ghost use Rattle.words.specs.Machine.{words_in, bits_of, set_of, word_count, FirstDifference, Meets};
@@ -18,7 +20,7 @@ pub const WORDS: usize = (WIDTH / BITS) as usize;
 
 // An assignment, or a set of variables, in words of 32 bits, the lowest first: bit v - 1 of its
 // number (specs/Machine.antt) belongs to variable v.
-#[derive(Drop)]
+#[derive(Clone, Copy)]
 pub struct Assignment {
     pub w0: u32,
     pub w1: u32,
@@ -28,14 +30,14 @@ pub struct Assignment {
 
 // A set of variables in two words of 64 bits, the lowest first: bit v - 1 of its number
 // (specs/Machine.antt) belongs to variable v.
-#[derive(Drop)]
+#[derive(Clone, Copy)]
 pub struct Set {
     pub low: u64,
     pub high: u64,
 }
 
 // Why an input is declined: number and place as in the paper's table of refusals.
-#[derive(Drop)]
+#[derive(Clone, Copy)]
 pub struct Refusal {
     pub number: u32,
     pub place: u32,

@@ -4,17 +4,13 @@ use native.Mathlib.Omega.{arith}
 use lib.Bits.{and_lt}
 use Rattle.words.specs.BitLaws.{bit_without}
 use Rattle.words.specs.SetLaws.{Fits, by_bits}
-use Rattle.words.proofs.Set.without.Statement.{statement}
-use Rattle.words.proofs.Set.without.Tie as tie
+use Rattle.words.proofs.Set.without.Goals as goal
 
-returns : tie.Need-returns
+pub returns : goal.returns
 returns c =
-    let a = c.before.before.before.before.args in
+    let a = c.args in
     let p : Fits a.self = omega arith in
     let q : Fits a.other = omega arith in
     by_bits (λ x y. x && not y) a.self a.other _ p q (and_lt 64 _ _ p.0 (omega arith), and_lt 64 _ _ p.1 (omega arith))
     (λ u l. bit_without 64 a.self.low a.other.low u q.0 l)
     (λ u l. bit_without 64 a.self.high a.other.high u q.1 l)
-
-pub without-spec : {M : Type 1} → statement M
-without-spec = tie.close (tie.spec returns)
