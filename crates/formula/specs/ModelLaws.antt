@@ -1,5 +1,5 @@
 -- Laws of the formulas that are searched, whichever way.
-use Rattle.std.specs.Prelude.{◌≡◌, refl, Bool, true, false, not, List, [], ◌∷◌, ℕ, ◌≤◌, eqb, length}
+use Rattle.std.specs.Prelude.{◌≡◌, refl, Bool, false, not, List, [], ◌∷◌, ℕ, ◌≤◌, eqb, length}
 use Rattle.std.proofs.Common.{sym, ◌∙◌, zero-le, le_refl, arith, eq-eqb}
 use Rattle.std.proofs.lemmas.Bool.{false≢true, not-true}
 use mathlib.Core.List.Memᴰ

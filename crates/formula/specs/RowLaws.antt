@@ -1,9 +1,8 @@
 -- Laws of a row that is copied from one table to another, cell by cell.
-use Rattle.std.specs.Prelude.{◌≡◌, refl, List, [], ◌∷◌, ◌++◌, map, ℕ, zero, suc, ◌+◌, ◌*◌, ◌≤◌, ◌<◌, length, get_or, take, drop, set}
-use Rattle.std.proofs.Common.{sym, ap, ◌∙◌, subst, add-zero, le_trans, add-one, arith, length-drop, length-append, take_at, drop_at, take-take, drop-drop, get_or-take, get_or-drop, length-take-le}
+use Rattle.std.specs.Prelude.{◌≡◌, List, ◌++◌, map, ℕ, ◌+◌, ◌*◌, ◌≤◌, ◌<◌, length, get_or, take, drop, set}
+use Rattle.std.proofs.Common.{sym, ap, ◌∙◌, add-zero, le_trans, add-one, arith, length-drop, take_at, drop_at, take-take, drop-drop, get_or-take, get_or-drop, length-take-le}
 use Rattle.std.proofs.Math.Seq.{paste, paste-zero, paste-suc}
 use Rattle.std.proofs.lemmas.List.Edits.{length-paste, take-paste}
-use Rattle.std.proofs.lemmas.List.{take-append-le}
 use Rattle.formula.specs.Formula.{literal_of, length_limit, clause_limit}
 use Rattle.formula.specs.Machine.{row_cells, cell_count, length_at, clause_at, Row, RowCopied}
 use Rattle.formula.specs.TableLaws.{take_drop}
