@@ -1,3 +1,2 @@
--- The definitions and laws of the crate alike.
+-- The definitions of the crate alike.
 pub mod Alike
-pub mod AlikeLaws

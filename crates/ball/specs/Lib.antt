@@ -2,12 +2,3 @@
 -- are laws.
 pub mod Ball
 pub mod Machine
-pub mod ReadingLaws
-pub mod RuleLaws
-pub mod CallLaws
-pub mod CountLaws
-pub mod FlipLaws
-pub mod ForcedLaws
-pub mod ChoiceLaws
-pub mod ClauseLaws
-pub mod MachineLaws

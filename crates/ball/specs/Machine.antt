@@ -2,13 +2,13 @@
 use Rattle.std.specs.Prelude.{◌≡◌, ◌⊎◌, Bool, true, false, cond, not, ◌&&◌, List, ℕ, ◌+◌, ◌-◌, ◌≤◌, ◌<◌, length, drop}
 use Rattle.words.specs.Lists.{every, count}
 use Rattle.words.specs.Bits.{bit, toggle, width}
-use Rattle.words.specs.BitLaws.{digit}
+use Rattle.words.proofs.BitLaws.{digit}
 use Rattle.words.specs.Machine.{bits_of, set_of}
 use Rattle.formula.specs.Formula.{Literal, bit_of, met, names, literal_of}
 use Rattle.formula.specs.Machine.{Table, IsLiteral, held, clause_at, length_at}
 use Rattle.tree.specs.declared.Found.{Found}
 use Rattle.tree.specs.Explore.{Outcome, none, try}
-use Rattle.tree.specs.BudgetLaws.{settle}
+use Rattle.tree.specs.Budget.{settle}
 use Rattle.tree.specs.Machine.{answer_in}
 use Rattle.planes.specs.declared.Kind.TheVariants.{Lone}
 use Rattle.planes.specs.Machine.{first_counter, second_counter, plane_cells, First, wanted, Occurs, Counts}

@@ -3,7 +3,7 @@ ghost use Rattle.std.specs.Prelude.{◌≡◌, ◌-◌, ◌≤◌, ◌<◌, leng
 ghost use Rattle.words.specs.Machine.{set_of};
 ghost use Rattle.formula.specs.Formula.{literal_of};
 ghost use Rattle.formula.specs.Machine.{IsLiteral, clause_at};
-ghost use Rattle.tree.specs.BudgetLaws.{settle};
+ghost use Rattle.tree.specs.Budget.{settle};
 ghost use Rattle.tree.specs.Machine.{answer_in};
 ghost use Rattle.planes.specs.Machine.{lane_count, plane_cells};
 ghost use Rattle.ball.specs.Ball.{flip};

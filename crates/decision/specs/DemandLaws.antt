@@ -4,30 +4,30 @@ use Rattle.std.proofs.Math.Path.{refl}
 use Rattle.std.proofs.Common.{ap, ◌∙◌, subst, mul-le-mul_left, mul-le-mul_right, mul-one, arith, pow_mono, pow_pos}
 use Rattle.std.proofs.Math.Nat.{le_trans}
 use Rattle.words.specs.Bits.{width}
-use Rattle.words.specs.WordLaws.{words_number}
+use Rattle.words.proofs.WordLaws.{words_number}
 use Rattle.words.specs.Lists.{In}
-use Rattle.words.specs.ListLaws.{apart, length_keep}
+use Rattle.words.proofs.ListLaws.{apart, length_keep}
 use Rattle.formula.specs.Formula.{Clause, Formula, WellFormed, Satisfiable}
 use Rattle.formula.specs.Sheet.{Result, accepted, parse}
 use Rattle.formula.specs.Sets.{stands}
-use Rattle.formula.specs.ModelLaws.{well_formed_known}
-use Rattle.formula.specs.ParseAccepted.{parse_well_formed}
-use Rattle.formula.specs.ParseRefused.{parse_refused}
+use Rattle.formula.proofs.ModelLaws.{well_formed_known}
+use Rattle.formula.proofs.ParseAccepted.{parse_well_formed}
+use Rattle.formula.proofs.ParseRefused.{parse_refused}
 use Rattle.code.specs.Code.{code}
-use Rattle.code.specs.CodeLaws.{code_covers, code_within}
+use Rattle.code.proofs.CodeLaws.{code_covers, code_within}
 use Rattle.code.specs.Operations.{coded?}
 use Rattle.tree.specs.Explore.{Outcome, found, calls, powers}
-use Rattle.tree.specs.TreeLaws.{powers_none, powers_most}
+use Rattle.tree.proofs.TreeLaws.{powers_none, powers_most}
 use Rattle.tree.specs.Budget as Budget
 use Rattle.tree.specs.Budget.{answer}
-use Rattle.tree.specs.BudgetLaws.{count_of, assignment_of, clear_found, none_none}
-use Rattle.tree.specs.Decides.{Decides, IsClear, IsNone, IsSpent, Correct, none_unsat, answer_correct, answer_stays, further_none}
+use Rattle.tree.proofs.BudgetLaws.{count_of, assignment_of, clear_found, none_none}
+use Rattle.tree.proofs.Decides.{Decides, IsClear, IsNone, IsSpent, Correct, none_unsat, answer_correct, answer_stays, further_none}
 use Rattle.search.specs.Run.{Plan, Block, Code, search_of, run, blocks, centre_count, summed_radius, product, longest}
-use Rattle.search.specs.CentreLaws.{Covering, blocks_size, blocks_covered, radius_same, blocks_most}
-use Rattle.search.specs.ReachLaws.{centres_reach}
-use Rattle.search.specs.RunLaws.{longest_in, formula_decides, formula_bounded}
+use Rattle.search.proofs.CentreLaws.{Covering, blocks_size, blocks_covered, radius_same, blocks_most}
+use Rattle.search.proofs.ReachLaws.{centres_reach}
+use Rattle.search.proofs.RunLaws.{longest_in, formula_decides, formula_bounded}
 use Rattle.horn.specs.Horn.{positives, is_horn, rounds}
-use Rattle.horn.specs.HornLaws.{rounds_calls, rounds_bounded, rounds_decide}
+use Rattle.horn.proofs.HornLaws.{rounds_calls, rounds_bounded, rounds_decide}
 use Rattle.decision.specs.declared.Reply.{Reply}
 use Rattle.decision.specs.Right.{Accepted, Answered, bad_plan_lem, bad_sheet, is_clear, is_none, is_spent, Right, decided_by}
 use Rattle.decision.specs.Answers.{outcome, answered, refusal, judged, decided, decision, marks_of, numbers_of, reply_of, reply_to, BAD_PLAN, REFUSED, CLEAR, NONE, SPENT}

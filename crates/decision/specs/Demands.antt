@@ -3,17 +3,17 @@ use Rattle.std.specs.Prelude.{◌≡◌, true, List, ℕ, ◌*◌, ◌≤◌}
 use Rattle.std.proofs.Common.{sym}
 use Rattle.formula.specs.Formula.{Formula, WellFormed}
 use Rattle.formula.specs.Sheet.{accepted, parse, encode}
-use Rattle.formula.specs.ParseEncode.{parse_encode}
-use Rattle.formula.specs.ParseAccepted.{parse_well_formed}
+use Rattle.formula.proofs.ParseEncode.{parse_encode}
+use Rattle.formula.proofs.ParseAccepted.{parse_well_formed}
 use Rattle.formula.specs.Sets.{stands}
 use Rattle.code.specs.Covering.{Covers}
 use Rattle.code.specs.Code.{code}
-use Rattle.code.specs.CodeLaws.{code_covers}
+use Rattle.code.proofs.CodeLaws.{code_covers}
 use Rattle.code.specs.Closing.{most_words, sharp_words}
-use Rattle.code.specs.ClosingLaws.{code_most, code_sharp}
+use Rattle.code.proofs.ClosingLaws.{code_most, code_sharp}
 use Rattle.code.specs.Operations.{coded?}
 use Rattle.alike.specs.Alike.{alike}
-use Rattle.alike.specs.AlikeLaws.{alike_stands}
+use Rattle.alike.proofs.AlikeLaws.{alike_stands}
 use Rattle.tree.specs.Explore.{calls, powers}
 use Rattle.search.specs.Run.{Plan, Code, blocks, centre_count, summed_radius, product, longest}
 use Rattle.decision.specs.Answers.{outcome, reply_to, REFUSED, CLEAR, NONE, SPENT}

@@ -5,14 +5,14 @@ use Rattle.std.proofs.Common.{sym, ap, ◌∙◌, inl, inr, le_trans}
 use Rattle.std.proofs.Math.Bool.{false}
 use Rattle.words.specs.Bits.{bit}
 use Rattle.formula.specs.Formula.{Formula, all_true}
-use Rattle.formula.specs.ParseAccepted.{parse_well_formed}
+use Rattle.formula.proofs.ParseAccepted.{parse_well_formed}
 use Rattle.tree.specs.Explore.{Outcome, calls}
 use Rattle.tree.specs.Budget.{answer}
 use Rattle.code.specs.Code.{code}
 use Rattle.search.specs.Run.{Plan, search_of, run, longest}
-use Rattle.search.specs.RunLaws.{longest_in}
+use Rattle.search.proofs.RunLaws.{longest_in}
 use Rattle.horn.specs.Horn.{is_horn, rounds}
-use Rattle.horn.specs.HornLaws.{Subset, short_horn, small_horn, rounds_bounded, rounds_least}
+use Rattle.horn.proofs.HornLaws.{Subset, short_horn, small_horn, rounds_bounded, rounds_least}
 use Rattle.decision.specs.declared.Method.TheVariants.{Horn, Balls}
 use Rattle.decision.specs.declared.Reply.{Reply}
 use Rattle.decision.specs.Answers.{method_of, outcome, answered, method_number, numbers_of, marks_of, reply_to, CLEAR, HORN, BALLS}

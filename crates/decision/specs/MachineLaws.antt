@@ -4,12 +4,12 @@ use Rattle.std.proofs.Common.{sym, ap₂, ◌∙◌, subst, true≢false}
 use Rattle.words.specs.declared.Refusal.{Refusal}
 use Rattle.formula.specs.Formula.{Clause, Formula}
 use Rattle.formula.specs.Machine.{SheetRead, held}
-use Rattle.formula.specs.ReadingLaws.{sheet_accepted, sheet_refused}
+use Rattle.formula.proofs.ReadingLaws.{sheet_accepted, sheet_refused}
 use Rattle.formula.specs.declared.Reading.{Reading}
 use Rattle.formula.specs.declared.Reading.TheVariants.{Accepted, Refused as Stopped}
 use Rattle.code.specs.Code.{code}
 use Rattle.code.specs.Operations.{coded?}
-use Rattle.code.specs.OperationLaws.{coded_bounds}
+use Rattle.code.proofs.OperationLaws.{coded_bounds}
 use Rattle.tree.specs.Budget.{Answer, answer}
 use Rattle.search.specs.Run.{Plan, plan, blocks, search_of, run}
 use Rattle.search.specs.Machine.{search_in, LaidOut}

@@ -5,18 +5,18 @@ use Rattle.formula.specs.Formula.{Formula, WellFormed, all_true}
 use Rattle.formula.specs.Sheet.{Result, accepted, parse, encode}
 use Rattle.formula.specs.Sets.{stands}
 use Rattle.formula.specs.Refusals.{Reason}
-use Rattle.formula.specs.ModelLaws.{well_formed_known}
-use Rattle.formula.specs.ParseEncode.{parse_encode}
-use Rattle.formula.specs.ParseAccepted.{parse_well_formed}
-use Rattle.formula.specs.ParseRefused.{parse_refused}
+use Rattle.formula.proofs.ModelLaws.{well_formed_known}
+use Rattle.formula.proofs.ParseEncode.{parse_encode}
+use Rattle.formula.proofs.ParseAccepted.{parse_well_formed}
+use Rattle.formula.proofs.ParseRefused.{parse_refused}
 use Rattle.tree.specs.Explore.{calls}
 use Rattle.tree.specs.Budget as Budget
 use Rattle.tree.specs.Budget.{answer}
-use Rattle.tree.specs.Decides.{Decides, answer_correct, answer_stays}
+use Rattle.tree.proofs.Decides.{Decides, answer_correct, answer_stays}
 use Rattle.search.specs.Run.{Plan}
 use Rattle.splitting.specs.Splitting.{weight}
-use Rattle.splitting.specs.SplittingLaws as SplittingLaws
-use Rattle.splitting.specs.SplittingLaws.{split_decides}
+use Rattle.splitting.proofs.SplittingLaws as SplittingLaws
+use Rattle.splitting.proofs.SplittingLaws.{split_decides}
 use Rattle.decision.specs.declared.Reply.{Reply}
 use Rattle.decision.specs.Answers.{answered, refusal, decided, split_judged, split_decision, method_number, numbers_of, counts, declines, marks_of, reply_of, reply_to, split_outcome, split_to, REFUSED, CLEAR, NONE, SPENT, NO_ROAD}
 use Rattle.decision.specs.Right.{Accepted, Right, decided_by}

@@ -12,19 +12,19 @@ use Rattle.std.proofs.Math.ListN.{length}
 use Rattle.std.proofs.Math.Pow.{pow_pos}
 use borrow.Author.Tests.{ltb-true, ltb-false, lt-ltb, le-ltb}
 use Rattle.words.specs.Lists.{In, every}
-use Rattle.words.specs.ListLaws.{apart}
+use Rattle.words.proofs.ListLaws.{apart}
 use Rattle.formula.specs.Formula.{Formula, WellFormed, all_true, Satisfiable}
 use Rattle.formula.specs.Sheet.{Result, accepted, parse, encode}
 use Rattle.formula.specs.Refusals.{Reason}
-use Rattle.formula.specs.ParseEncode.{parse_encode}
-use Rattle.formula.specs.ParseAccepted.{parse_well_formed}
-use Rattle.formula.specs.ParseRefused.{parse_refused}
+use Rattle.formula.proofs.ParseEncode.{parse_encode}
+use Rattle.formula.proofs.ParseAccepted.{parse_well_formed}
+use Rattle.formula.proofs.ParseRefused.{parse_refused}
 use Rattle.code.specs.Code.{code}
 use Rattle.code.specs.Operations.{coded?}
 use Rattle.tree.specs.Explore.{powers}
 use Rattle.tree.specs.Budget.{Answer, clear, spent, answer}
-use Rattle.tree.specs.BudgetLaws.{spent_calls}
-use Rattle.tree.specs.Decides.{IsNone, IsSpent}
+use Rattle.tree.proofs.BudgetLaws.{spent_calls}
+use Rattle.tree.proofs.Decides.{IsNone, IsSpent}
 use Rattle.search.specs.Run.{Plan, blocks, centre_count, summed_radius, longest}
 use Rattle.decision.specs.declared.Reply.{Reply}
 use Rattle.decision.specs.Answers.{outcome, answered, refusal, judged, numbers_of, reply_of, reply_to, counts, declines, BAD_PLAN, REFUSED, NONE, SPENT}

@@ -13,16 +13,16 @@ use Rattle.std.proofs.Math.ListN.{length, get_or, length-map, get_or-map, get_or
 use Rattle.std.proofs.Math.Seq.{ext_get_or}
 use borrow.Author.Tests.{ltb-true, ltb-false, eqb-false, not-true}
 use Rattle.words.specs.Lists.{In, keep, span}
-use Rattle.words.specs.ListLaws.{apart, every_in, in_every, keep_in, in_span, span_in, length_span, get_or_span}
+use Rattle.words.proofs.ListLaws.{apart, every_in, in_every, keep_in, in_span, span_in, length_span, get_or_span}
 use Rattle.formula.specs.Formula.{Clause, Formula, WellFormed, some_met, all_true, Satisfiable}
 use Rattle.code.specs.Code.{code}
 use Rattle.tree.specs.Explore.{Outcome, calls, powers}
-use Rattle.tree.specs.TreeLaws.{powers_more}
+use Rattle.tree.proofs.TreeLaws.{powers_more}
 use Rattle.tree.specs.Budget.{Answer, clear, spent, answer}
-use Rattle.tree.specs.BudgetLaws.{clear_found, none_none, spent_calls}
-use Rattle.tree.specs.Decides.{IsClear, IsNone, IsSpent, none_unsat, answer_stays}
+use Rattle.tree.proofs.BudgetLaws.{clear_found, none_none, spent_calls}
+use Rattle.tree.proofs.Decides.{IsClear, IsNone, IsSpent, none_unsat, answer_stays}
 use Rattle.search.specs.Run.{Plan, blocks, centre_count, summed_radius, longest}
-use Rattle.search.specs.RunLaws.{longest_in, longest_reached}
+use Rattle.search.proofs.RunLaws.{longest_in, longest_reached}
 use Rattle.decision.specs.Answers.{outcome, answered, Decision, judged, method_of}
 use Rattle.decision.specs.DemandLaws.{outcome_decides, outcome_bounded}
 use Rattle.deletion.specs.Core.{pick, only, Core, ended, core, by_verdict, sift, deletion}

@@ -6,15 +6,15 @@ use mathlib.Core.List.{List, [], ◌∷◌, ◌++◌}
 use Rattle.std.proofs.Math.ListN.{length}
 use borrow.Author.Tests.{lt-ltb, le-ltb}
 use Rattle.words.specs.Lists.{every, span}
-use Rattle.words.specs.ListLaws.{apart, every_in, in_every}
+use Rattle.words.proofs.ListLaws.{apart, every_in, in_every}
 use Rattle.formula.specs.Formula.{Clause, Formula, clause_limit}
 use Rattle.words.specs.declared.Refusal.{Refusal}
 use Rattle.formula.specs.Machine.{row_cells, cell_count, held, Table, SheetRead}
-use Rattle.formula.specs.ReadingLaws.{sheet_accepted, sheet_refused}
+use Rattle.formula.proofs.ReadingLaws.{sheet_accepted, sheet_refused}
 use Rattle.formula.specs.declared.Reading.{Reading}
 use Rattle.formula.specs.declared.Reading.TheVariants.{Accepted, Refused as Stop}
 use Rattle.code.specs.Operations.{coded?}
-use Rattle.formula.specs.TableLaws.{take_kept, length_held}
+use Rattle.formula.proofs.TableLaws.{take_kept, length_held}
 use Rattle.tree.specs.Budget.{clear, none}
 use Rattle.search.specs.Run.{Plan, plan}
 use Rattle.horn.specs.Horn.{is_horn}

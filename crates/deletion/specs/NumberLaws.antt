@@ -5,7 +5,7 @@ use Rattle.std.proofs.Math.Path.{ap}
 use Rattle.std.proofs.Math.ListN.{length, take, drop}
 use Rattle.std.proofs.Math.Seq.{take-length, append_snoc}
 use Rattle.std.proofs.lemmas.List.{set_at}
-use Rattle.words.specs.ListLaws.{apart}
+use Rattle.words.proofs.ListLaws.{apart}
 use Rattle.formula.specs.Formula.{clause_limit}
 use Rattle.tree.specs.Budget.{clear, none}
 use Rattle.decision.specs.Answers.{Verdict, answered}

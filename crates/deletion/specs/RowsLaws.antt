@@ -4,10 +4,10 @@ use Rattle.std.proofs.Common.{sym, ap, ◌∙◌, subst, inl, inr, ⊎_elim, zer
 use Rattle.std.proofs.lemmas.List.{length-map}
 use Rattle.std.proofs.Math.ListN.{get_or-map, get_or-append, get_or-eq_default}
 use Rattle.words.specs.Lists.{In, span}
-use Rattle.words.specs.ListLaws.{length_span, get_or_span}
+use Rattle.words.proofs.ListLaws.{length_span, get_or_span}
 use Rattle.formula.specs.Formula.{Clause, WellFormedClause, length_limit, clause_limit}
 use Rattle.formula.specs.Machine.{row_cells, cell_count, length_at, clause_at, held, Table, Row, RowCopied}
-use Rattle.formula.specs.TableLaws.{take_kept, length_kept, clause_kept, length_held, held_at, table_row}
+use Rattle.formula.proofs.TableLaws.{take_kept, length_kept, clause_kept, length_held, held_at, table_row}
 use Rattle.deletion.specs.Core.{pick}
 use Rattle.deletion.specs.CoreLaws.{Rising, rising_in, rising_few, in_get_or, pick_length}
 use Rattle.deletion.specs.Machine.{Numbered, Placed}

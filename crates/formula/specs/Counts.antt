@@ -3,7 +3,7 @@ use Rattle.std.specs.Prelude.{◌≡◌, Bool, ℕ, ◌+◌, ◌≤◌, ◌<◌,
 use Rattle.std.specs.Bool.{beq}
 use Rattle.std.specs.Int.Bits.{bit_xor}
 use Rattle.words.specs.Lists.{some, count}
-use Rattle.words.specs.BitLaws.{digit}
+use Rattle.words.proofs.BitLaws.{digit}
 use Rattle.formula.specs.Formula.{Clause, literal_word}
 
 -- how many literals of a clause have this sign

@@ -1,27 +1,7 @@
--- The definitions and laws of the crate formula.
+-- The definitions of the crate formula.
 pub mod Formula
 pub mod Sheet
 pub mod Refusals
 pub mod Sets
 pub mod Counts
 pub mod Machine
-pub mod SheetLaws
-pub mod ParseEncode
-pub mod ParseAccepted
-pub mod ParseRefused
-pub mod ParseReason
-pub mod SetLaws
-pub mod LackingLaws
-pub mod MaskLaws
-pub mod ModelLaws
-pub mod CountLaws
-pub mod SignLaws
-pub mod TableLaws
-pub mod RowLaws
-pub mod HeldLaws
-pub mod ResultLaws
-pub mod WordLaws
-pub mod LiteralsLaws
-pub mod ClausesLaws
-pub mod ReadingLaws
-pub mod WholeLaws

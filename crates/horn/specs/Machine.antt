@@ -7,7 +7,7 @@ use Rattle.formula.specs.Counts.{sign_count}
 use Rattle.formula.specs.Machine.{Table, held}
 use Rattle.tree.specs.Explore.{explore}
 use Rattle.tree.specs.Budget.{answer}
-use Rattle.tree.specs.BudgetLaws.{settle}
+use Rattle.tree.specs.Budget.{settle}
 use Rattle.planes.specs.Machine.{first_counter, second_counter, plane_cells, Counts, Occurs}
 use Rattle.horn.specs.Horn.{horn_tree, rounds}
 

@@ -3,7 +3,7 @@
 use Rattle.std.specs.Prelude.{◌≡◌, Bool, true, false, not, ◌&&◌, ◌||◌, List, ℕ, zero, suc, ◌+◌, ◌-◌, ◌*◌, ◌/◌, ◌%◌, ◌^◌, ◌≤◌, ◌<◌, eqb, leb, ltb, length, get_or}
 use Rattle.words.specs.Lists.{every}
 use Rattle.words.specs.Bits.{bit, width}
-use Rattle.words.specs.BitLaws.{digit}
+use Rattle.words.proofs.BitLaws.{digit}
 use Rattle.formula.specs.Formula.{Clause, names}
 use Rattle.formula.specs.Counts.{sign_count, sign_word, holds, Steps}
 use Rattle.formula.specs.Machine.{Table, clause_at, held}

@@ -2,10 +2,3 @@
 -- others are laws.
 pub mod Run
 pub mod Machine
-pub mod CentreLaws
-pub mod ReachLaws
-pub mod RunLaws
-pub mod LegLaws
-pub mod CallLaws
-pub mod BallsLaws
-pub mod LayoutLaws

@@ -7,7 +7,7 @@ use Rattle.tree.specs.declared.Found.{Found}
 use Rattle.tree.specs.declared.Found.TheVariants.{None}
 use Rattle.tree.specs.Budget.{Answer, clear, spent}
 use Rattle.tree.specs.Legs as Legs
-use Rattle.tree.specs.LegLaws.{leg_from}
+use Rattle.tree.proofs.LegLaws.{leg_from}
 use Rattle.tree.specs.Machine.{answer_in}
 use Rattle.planes.specs.Machine.{plane_cells}
 use Rattle.search.specs.declared.balls.Progress.{Progress}

@@ -10,7 +10,7 @@ ghost use Rattle.words.specs.Bits.{width};
 ghost use Rattle.formula.specs.Machine.{Table};
 ghost use Rattle.tree.specs.Machine.{answer_in};
 ghost use Rattle.tree.specs.Budget.{answer};
-ghost use Rattle.tree.specs.LegLaws.{cut};
+ghost use Rattle.tree.specs.Legs.{cut};
 ghost use Rattle.search.specs.Run.{run, leg_of};
 ghost use Rattle.search.specs.Machine.{blocks_in, extent, Laying, search_in, progress_in};
 

@@ -7,7 +7,7 @@ ghost use Rattle.std.specs.Prelude.{◌≡◌, List, ℕ, ◌≤◌};
 ghost use Rattle.words.specs.Bits.{width};
 ghost use Rattle.formula.specs.Machine.{Table, held};
 ghost use Rattle.tree.specs.Budget.{answer};
-ghost use Rattle.tree.specs.BudgetLaws.{settle};
+ghost use Rattle.tree.specs.Budget.{settle};
 ghost use Rattle.tree.specs.Machine.{answer_in};
 ghost use Rattle.splitting.specs.Splitting.{split};
 ghost use Rattle.splitting.specs.Machine.{node_in, Standing, call_from};

@@ -16,3 +16,7 @@ whole (Outcome.none c) = Answer.none c
 -- The answer within the budget A: spent where the calls needed are more.
 unfoldable pub answer : ℕ → Outcome → Answer
 answer A o = cond (leb (calls o) A) (whole o) (spent A)
+
+-- the answer where c calls were counted before
+unfoldable pub settle : ℕ → ℕ → Outcome → Answer
+settle A c o = answer A (plus c o)

@@ -26,3 +26,9 @@ leg_over s A E (suc k) c i = turn E i c (answer A (plus c (s i))) (λ d. leg_ove
 -- The leg from search i of E on, within the budget A.
 unfoldable pub leg : (ℕ → Outcome) → (A E i : ℕ) → Progress
 leg s A E i = leg_over s A E (E - i) 0 i
+
+-- where a leg is spent, a search with that budget counts all of it
+unfoldable pub cut : ℕ → Answer → Answer
+cut A (clear m d) = clear m d
+cut A (Answer.none d) = Answer.none d
+cut A (spent d) = spent A

@@ -1,7 +1,7 @@
 -- `compare` meets its contract: what the reader says of the first sheet, and the comparison with the second.
 use mathlib.Core.Path.{refl}
 use borrow.Author.Rules.{rules}
-use Rattle.formula.specs.ReadingLaws.{sheet_accepted, sheet_refused}
+use Rattle.formula.proofs.ReadingLaws.{sheet_accepted, sheet_refused}
 use Rattle.alike.specs.Alike.{compared, comparison}
 use Rattle.alike.proofs.compare.Statement.{statement}
 use Rattle.alike.proofs.compare.Tie as tie

@@ -2,7 +2,7 @@
 use mathlib.Core.Path.{refl, ap, ◌∙◌}
 use mathlib.Core.Bool.{Bool, cond}
 use borrow.Author.Rules.{rules}
-use Rattle.formula.specs.ReadingLaws.{sheet_accepted, sheet_refused}
+use Rattle.formula.proofs.ReadingLaws.{sheet_accepted, sheet_refused}
 use Rattle.alike.specs.declared.Comparison.TheVariants.{Alike, Different}
 use Rattle.alike.specs.Alike.{compared}
 use Rattle.alike.proofs.compare_with.Statement.{statement}

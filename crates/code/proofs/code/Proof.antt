@@ -4,7 +4,7 @@ use mathlib.Core.Bool.{true}
 use borrow.Author.Tests.{not-true, not-false}
 use Rattle.code.specs.declared.Answer.TheVariants.{Number}
 use Rattle.code.specs.Operations.{coded?, written}
-use Rattle.code.specs.OperationLaws.{coded_le, code_bad, code_short, code_fits}
+use Rattle.code.proofs.OperationLaws.{coded_le, code_bad, code_short, code_fits}
 use borrow.Author.Rules.{rules}
 use Rattle.code.proofs.code.Statement.{statement}
 use Rattle.code.proofs.code.Tie as tie

@@ -4,9 +4,9 @@ use Prim.Native.Nat.{◌<◌}
 use native.Mathlib.Omega.{arith}
 use Rattle.code.specs.declared.Answer.TheVariants.{Number}
 use Rattle.code.specs.Operations.{floor_answer}
-use Rattle.code.specs.OperationLaws.{measured_le}
-use Rattle.code.specs.VolumeLaws.{volume_pos, volume_most}
-use Rattle.code.specs.FloorLaws.{floor_quotient}
+use Rattle.code.proofs.OperationLaws.{measured_le}
+use Rattle.code.proofs.VolumeLaws.{volume_pos, volume_most}
+use Rattle.code.proofs.FloorLaws.{floor_quotient}
 use borrow.Author.Rules.{rules}
 use Rattle.code.proofs.floor.Statement.{statement}
 use Rattle.code.proofs.floor.Tie as tie

@@ -1,7 +1,7 @@
 -- `code::volume` answers by the definition, for every input.
 use mathlib.Core.Path.{refl, sym, ◌∙◌}
 use Rattle.code.specs.Operations.{volume_answer}
-use Rattle.code.specs.OperationLaws.{measured_le}
+use Rattle.code.proofs.OperationLaws.{measured_le}
 use borrow.Author.Rules.{rules}
 use Rattle.code.proofs.volume.Statement.{statement}
 use Rattle.code.proofs.volume.Tie as tie

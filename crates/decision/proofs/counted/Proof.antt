@@ -1,7 +1,7 @@
 -- `counted` meets its contract: the words of an assignment are those of its number.
 use native.Mathlib.Omega.{arith}
 use Rattle.words.specs.Machine.{words_in}
-use Rattle.words.specs.WordLaws.{words_small, words_at}
+use Rattle.words.proofs.WordLaws.{words_small, words_at}
 use Rattle.decision.proofs.counted.Statement.{statement}
 use Rattle.decision.proofs.counted.Tie as tie
 

@@ -3,7 +3,7 @@ use mathlib.Core.Path.{◌≡◌, sym, ◌∙◌}
 use mathlib.Core.Bool.{true}
 use borrow.Author.Rules.{rules}
 use borrow.Author.Tests.{not-true, not-false}
-use Rattle.formula.specs.ReadingLaws.{read_ready}
+use Rattle.formula.proofs.ReadingLaws.{read_ready}
 use Rattle.code.specs.Operations.{coded?}
 use Rattle.decision.specs.MachineLaws.{plan_bounds, decide_bad, decide_declined, decide_judged}
 use Rattle.decision.proofs.decide.Statement.{statement}

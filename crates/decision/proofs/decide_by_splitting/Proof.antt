@@ -1,7 +1,7 @@
 -- `decide_by_splitting` meets its contract: the sheet's refusal, and otherwise the answer on the table that was read.
 use mathlib.Core.Path.{ap, ◌∙◌}
 use borrow.Author.Rules.{rules}
-use Rattle.formula.specs.ReadingLaws.{read_ready}
+use Rattle.formula.proofs.ReadingLaws.{read_ready}
 use Rattle.decision.specs.declared.Method.TheVariants.{Unnamed}
 use Rattle.decision.specs.Answers.{Verdict}
 use Rattle.decision.specs.Machine.{decision_in}

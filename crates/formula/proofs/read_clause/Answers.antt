@@ -3,8 +3,8 @@ use mathlib.Core.Path.{◌∙◌}
 use native.Mathlib.Omega.{arith}
 use lib.ListN.{length-set}
 use borrow.Author.Rules.{rules}
-use Rattle.formula.specs.ResultLaws.{number_limit}
-use Rattle.formula.specs.ClausesLaws.{clause_stop, clause_read}
+use Rattle.formula.proofs.ResultLaws.{number_limit}
+use Rattle.formula.proofs.ClausesLaws.{clause_stop, clause_read}
 use Rattle.formula.proofs.read_clause.Goals as goal
 
 pub returns-in_default : goal.returns-in_default

@@ -1,8 +1,8 @@
 use Prim.Native.Nat.{◌<◌}
 use native.Mathlib.Omega.{arith}
 use Rattle.formula.specs.Formula.{clause_limit}
-use Rattle.formula.specs.SheetLaws.{length_words}
-use Rattle.formula.specs.ClausesLaws.{start, finish, full, stop, go_on}
+use Rattle.formula.proofs.SheetLaws.{length_words}
+use Rattle.formula.proofs.ClausesLaws.{start, finish, full, stop, go_on}
 use Rattle.formula.proofs.read_clauses.Goals as goal
 
 pub loop-at-init : goal.loop-at-init

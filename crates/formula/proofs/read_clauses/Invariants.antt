@@ -2,7 +2,7 @@
 -- the words left.
 use Prim.Native.Nat.{◌-◌}
 use Rattle.formula.specs.Sheet.{words}
-use Rattle.formula.specs.ClausesLaws.{ClausesSofar}
+use Rattle.formula.proofs.ClausesLaws.{ClausesSofar}
 use Rattle.formula.proofs.read_clauses.Given as goal
 
 abbrev pub invariant-loop-at : goal.invariant-loop-at

@@ -1,7 +1,7 @@
 -- `read_header` is `take_header`: each way out is a law of WholeLaws.antt.
 use native.Mathlib.Omega.{arith}
-use Rattle.formula.specs.ResultLaws.{number_limit}
-use Rattle.formula.specs.WholeLaws.{stop_first, stop_second, stop_third, header_read}
+use Rattle.formula.proofs.ResultLaws.{number_limit}
+use Rattle.formula.proofs.WholeLaws.{stop_first, stop_second, stop_third, header_read}
 use Rattle.formula.proofs.read_header.Goals as goal
 
 pub returns-in-Refused : goal.returns-in-Refused

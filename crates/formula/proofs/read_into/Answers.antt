@@ -2,7 +2,7 @@
 use mathlib.Core.Path.{◌∙◌}
 use native.Mathlib.Omega.{arith}
 use lib.ListN.{length-take, length-drop}
-use Rattle.formula.specs.WholeLaws.{refused_read, too_long, uneven, too_short, whole, header_limit, header_stop, clauses_stop, sheet_read}
+use Rattle.formula.proofs.WholeLaws.{refused_read, too_long, uneven, too_short, whole, header_limit, header_stop, clauses_stop, sheet_read}
 use Rattle.formula.proofs.read_into.Goals as goal
 
 pub returns-then-sheet-gt-BYTE_LIMIT : goal.returns-then-sheet-gt-BYTE_LIMIT

@@ -1,7 +1,7 @@
 use Prim.Native.Nat.{◌/◌, ◌≤◌}
 use native.Mathlib.Omega.{arith}
-use Rattle.formula.specs.SheetLaws.{length_words}
-use Rattle.formula.specs.LiteralsLaws.{start, finish, torn, stop, go_on, literal_known}
+use Rattle.formula.proofs.SheetLaws.{length_words}
+use Rattle.formula.proofs.LiteralsLaws.{start, finish, torn, stop, go_on, literal_known}
 use Rattle.formula.proofs.read_literals.Goals as goal
 use Rattle.formula.proofs.read_literals.Goals.{In-Number}
 

@@ -3,7 +3,7 @@
 use Prim.Native.Nat.{◌-◌}
 use Rattle.words.specs.Machine.{bits_of}
 use Rattle.formula.specs.Sheet.{words}
-use Rattle.formula.specs.LiteralsLaws.{LiteralsSofar}
+use Rattle.formula.proofs.LiteralsLaws.{LiteralsSofar}
 use Rattle.formula.proofs.read_literals.Given as goal
 
 abbrev pub invariant-loop-j : goal.invariant-loop-j

@@ -4,9 +4,9 @@ use Prim.Native.Nat.{◌<◌}
 use native.Mathlib.Omega.{arith}
 use lib.ListN.{length}
 use Rattle.formula.specs.Sheet.{words}
-use Rattle.formula.specs.SheetLaws.{length_words}
+use Rattle.formula.proofs.SheetLaws.{length_words}
 use Rattle.formula.specs.Machine.{taken_of}
-use Rattle.formula.specs.ClausesLaws.{surplus_kind, surplus_number}
+use Rattle.formula.proofs.ClausesLaws.{surplus_kind, surplus_number}
 use Rattle.formula.proofs.refuse_clause.Goals as goal
 
 pub returns-in_default : goal.returns-in_default

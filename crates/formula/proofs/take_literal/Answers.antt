@@ -2,10 +2,10 @@
 use mathlib.Core.Path.{sym, ap, ◌∙◌}
 use native.Mathlib.Omega.{arith}
 use borrow.Author.Tests.{ltb-false, lt-ltb, le-ltb}
-use Rattle.formula.specs.ParseAccepted.{word_literal}
+use Rattle.formula.proofs.ParseAccepted.{word_literal}
 use Rattle.formula.specs.declared.Taken.TheVariants.{Number}
 use Rattle.formula.specs.Machine.{taken_of}
-use Rattle.formula.specs.WordLaws.{literal_other, literal_zero, literal_unknown, literal_repeated, literal_read}
+use Rattle.formula.proofs.WordLaws.{literal_other, literal_zero, literal_unknown, literal_repeated, literal_read}
 use Rattle.formula.proofs.take_literal.Goals as goal
 use Rattle.formula.proofs.take_literal.Goals.{then-variable-eq0-via-then-variable-eq0, then-variable-eq0-via-else-variable-eq0+then-n-variable}
 

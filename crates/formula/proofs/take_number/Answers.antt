@@ -1,7 +1,7 @@
 -- `take_number` is `take_number`: each way out is a law of WordLaws.antt.
 use mathlib.Core.Path.{sym, ◌∙◌}
 use Rattle.formula.specs.Machine.{taken_of}
-use Rattle.formula.specs.WordLaws.{number_other, number_above, number_read}
+use Rattle.formula.proofs.WordLaws.{number_other, number_above, number_read}
 use Rattle.formula.proofs.take_number.Goals as goal
 
 pub returns-in_default : goal.returns-in_default

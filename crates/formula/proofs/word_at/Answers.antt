@@ -3,7 +3,7 @@ use Prim.Native.Nat.{◌<◌}
 use native.Mathlib.Omega.{arith}
 use lib.ListN.{length}
 use Rattle.formula.specs.Sheet.{word_of, words}
-use Rattle.formula.specs.SheetLaws.{words_at, length_words}
+use Rattle.formula.proofs.SheetLaws.{words_at, length_words}
 use Rattle.formula.proofs.word_at.Goals as goal
 
 pub returns : goal.returns

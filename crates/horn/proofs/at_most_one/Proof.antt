@@ -7,11 +7,11 @@ use lib.Dec.{leb}
 use lib.ListN.{length, drop}
 use borrow.Author.Rules.{rules}
 use Rattle.words.specs.Lists.{count}
-use Rattle.words.specs.CountLaws.{count_le}
+use Rattle.words.proofs.CountLaws.{count_le}
 use Rattle.formula.specs.Machine.{length_at, clause_at}
-use Rattle.formula.specs.TableLaws.{row_length, row_count_lem, row_counted}
+use Rattle.formula.proofs.TableLaws.{row_length, row_count_lem, row_counted}
 use Rattle.horn.specs.Horn.{positives}
-use Rattle.horn.specs.MachineLaws.{positive_digit}
+use Rattle.horn.proofs.MachineLaws.{positive_digit}
 use Rattle.horn.proofs.at_most_one.Statement.{statement}
 use Rattle.horn.proofs.at_most_one.Tie as tie
 

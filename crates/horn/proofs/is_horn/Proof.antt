@@ -5,9 +5,9 @@ use native.Mathlib.Omega.{arith}
 use lib.ListN.{drop}
 use borrow.Author.Rules.{rules}
 use borrow.Author.Tests.{not-true, not-false}
-use Rattle.words.specs.ListLaws.{every_fails, every_next, every_holds}
+use Rattle.words.proofs.ListLaws.{every_fails, every_next, every_holds}
 use Rattle.formula.specs.Machine.{held}
-use Rattle.formula.specs.TableLaws.{held_cons, held_end, rows_row}
+use Rattle.formula.proofs.TableLaws.{held_cons, held_end, rows_row}
 use Rattle.horn.specs.Horn.{is_horn}
 use Rattle.horn.proofs.is_horn.Statement.{statement}
 use Rattle.horn.proofs.is_horn.Tie as tie

@@ -6,9 +6,9 @@ use lib.ListN.{drop}
 use borrow.Author.Tests.{eq-eqb, ne_eqb}
 use Rattle.formula.specs.Formula.{literal_of}
 use Rattle.formula.specs.Machine.{length_at, clause_at}
-use Rattle.formula.specs.TableLaws.{row_cons, row_end}
+use Rattle.formula.proofs.TableLaws.{row_cons, row_end}
 use Rattle.horn.specs.Horn.{positives}
-use Rattle.horn.specs.MachineLaws.{positives_found, positives_next, positives_none}
+use Rattle.horn.proofs.MachineLaws.{positives_found, positives_next, positives_none}
 use Rattle.horn.proofs.positive_at.Statement.{statement}
 use Rattle.horn.proofs.positive_at.Tie as tie
 

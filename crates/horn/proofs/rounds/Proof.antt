@@ -10,11 +10,11 @@ use Rattle.words.specs.Machine.{bits_of}
 use Rattle.formula.specs.Formula.{bit_of, met, literal_of}
 use Rattle.formula.specs.Counts.{sign_count}
 use Rattle.formula.specs.Machine.{IsLiteral}
-use Rattle.formula.specs.TableLaws.{table_row, table_wider}
+use Rattle.formula.proofs.TableLaws.{table_row, table_wider}
 use Rattle.planes.specs.declared.Kind.TheVariants.{Zero}
 use Rattle.planes.specs.Machine.{First, Occurs, wanted}
 use Rattle.horn.specs.Machine.{Before}
-use Rattle.horn.specs.MachineLaws.{begins, round_start, round_spent, round_clear, round_inside, round_none, round_literal, round_unmet, round_next}
+use Rattle.horn.proofs.MachineLaws.{begins, round_start, round_spent, round_clear, round_inside, round_none, round_literal, round_unmet, round_next}
 use Rattle.horn.proofs.rounds.Statement.{statement}
 use Rattle.horn.proofs.rounds.Tie as tie
 

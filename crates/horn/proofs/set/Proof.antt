@@ -1,7 +1,7 @@
 -- `set` meets its contract: the rows of the literal and of its opposite move the number of met literals, and no row the other.
 use native.Mathlib.Omega.{arith}
-use Rattle.planes.specs.CountsLaws.{literal_rows}
-use Rattle.horn.specs.MachineLaws.{sets}
+use Rattle.planes.proofs.CountsLaws.{literal_rows}
+use Rattle.horn.proofs.MachineLaws.{sets}
 use Rattle.horn.proofs.set.Statement.{statement}
 use Rattle.horn.proofs.set.Tie as tie
 

@@ -8,7 +8,7 @@ use borrow.Author.Tests.{not-true, not-false}
 use Rattle.search.specs.Run.{plan}
 use Rattle.legs.specs.Legs.{of_plan, of_batch}
 use Rattle.legs.specs.Machine.{header_in}
-use Rattle.legs.specs.MachineLaws.{check_count, check_plan, check_old, check_sheet, check_next, check_clauses}
+use Rattle.legs.proofs.MachineLaws.{check_count, check_plan, check_old, check_sheet, check_next, check_clauses}
 use Rattle.legs.proofs.check_leg.Statement.{statement}
 use Rattle.legs.proofs.check_leg.Tie as tie
 

@@ -2,10 +2,10 @@
 use mathlib.Core.Path.{◌∙◌}
 use borrow.Author.Rules.{rules}
 use Rattle.formula.specs.Formula.{Formula}
-use Rattle.formula.specs.ReadingLaws.{read_ready}
-use Rattle.formula.specs.TableLaws.{table_rows}
+use Rattle.formula.proofs.ReadingLaws.{read_ready}
+use Rattle.formula.proofs.TableLaws.{table_rows}
 use Rattle.decision.specs.Machine.{formula_in}
-use Rattle.legs.specs.MachineLaws.{after_declined, after_read}
+use Rattle.legs.proofs.MachineLaws.{after_declined, after_read}
 use Rattle.legs.proofs.leg_after.Statement.{statement}
 use Rattle.legs.proofs.leg_after.Tie as tie
 

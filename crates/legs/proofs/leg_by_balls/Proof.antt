@@ -7,13 +7,13 @@ use borrow.Author.Rules.{rules}
 use Rattle.formula.specs.Formula.{Formula}
 use Rattle.search.specs.Run.{Block, Search, plan, centre_count, leg_of}
 use Rattle.search.specs.Machine.{blocks_in, search_in, progress_in}
-use Rattle.search.specs.LayoutLaws.{extent_is}
+use Rattle.search.proofs.LayoutLaws.{extent_is}
 use Rattle.legs.specs.declared.Check.TheVariants.{Passed}
 use Rattle.legs.specs.Legs.{centres, checks}
-use Rattle.legs.specs.LegLaws.{Fine, checks_fine}
+use Rattle.legs.proofs.LegLaws.{Fine, checks_fine}
 use Rattle.decision.specs.Machine.{formula_in}
 use Rattle.legs.specs.Machine.{header_in}
-use Rattle.legs.specs.MachineLaws.{checks_cut, leg_declines, leg_moved_on, search_in_lem}
+use Rattle.legs.proofs.MachineLaws.{checks_cut, leg_declines, leg_moved_on, search_in_lem}
 use Rattle.legs.proofs.leg_by_balls.Statement.{statement}
 use Rattle.legs.proofs.leg_by_balls.Tie as tie
 

@@ -3,10 +3,10 @@ use mathlib.Core.Path.{◌≡◌, sym, ◌∙◌}
 use mathlib.Core.Bool.{true}
 use borrow.Author.Rules.{rules}
 use borrow.Author.Tests.{not-true, not-false}
-use Rattle.formula.specs.ReadingLaws.{read_ready}
+use Rattle.formula.proofs.ReadingLaws.{read_ready}
 use Rattle.code.specs.Operations.{coded?}
 use Rattle.decision.specs.MachineLaws.{plan_bounds}
-use Rattle.legs.specs.MachineLaws.{leg_bad, leg_declined, leg_read_lem}
+use Rattle.legs.proofs.MachineLaws.{leg_bad, leg_declined, leg_read_lem}
 use Rattle.legs.proofs.leg_by_value.Statement.{statement}
 use Rattle.legs.proofs.leg_by_value.Tie as tie
 

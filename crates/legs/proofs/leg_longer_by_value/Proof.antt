@@ -3,10 +3,10 @@ use mathlib.Core.Path.{◌≡◌, sym, ◌∙◌}
 use mathlib.Core.Bool.{true}
 use borrow.Author.Rules.{rules}
 use borrow.Author.Tests.{not-true, not-false}
-use Rattle.formula.specs.ReadingLaws.{read_ready}
+use Rattle.formula.proofs.ReadingLaws.{read_ready}
 use Rattle.code.specs.Operations.{coded?}
 use Rattle.decision.specs.MachineLaws.{plan_bounds}
-use Rattle.legs.specs.MachineLaws.{longer_bad, longer_declined, longer_read}
+use Rattle.legs.proofs.MachineLaws.{longer_bad, longer_declined, longer_read}
 use Rattle.legs.proofs.leg_longer_by_value.Statement.{statement}
 use Rattle.legs.proofs.leg_longer_by_value.Tie as tie
 

@@ -3,7 +3,7 @@ use mathlib.Core.Path.{sym, ap, ◌∙◌}
 use borrow.Author.Rules.{rules}
 use Rattle.decision.specs.Answers.{Decision}
 use Rattle.legs.specs.Legs.{decided_leg}
-use Rattle.legs.specs.MachineLaws.{table_horn, table_balls}
+use Rattle.legs.proofs.MachineLaws.{table_horn, table_balls}
 use Rattle.legs.proofs.leg_table.Statement.{statement}
 use Rattle.legs.proofs.leg_table.Tie as tie
 

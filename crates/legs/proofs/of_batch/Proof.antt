@@ -1,6 +1,6 @@
 -- `of_batch` meets its contract: both numbers are those of the record.
 use Rattle.legs.specs.Legs.{of_batch}
-use Rattle.legs.specs.MachineLaws.{both_same, one_differs}
+use Rattle.legs.proofs.MachineLaws.{both_same, one_differs}
 use Rattle.legs.proofs.of_batch.Statement.{statement}
 use Rattle.legs.proofs.of_batch.Tie as tie
 

@@ -5,7 +5,7 @@ use native.Mathlib.Omega.{arith}
 use borrow.Author.Rules.{rules}
 use borrow.Author.Count.{below_more}
 use Rattle.planes.specs.Machine.{lanes, first_counter, words_of}
-use Rattle.planes.specs.CountsLaws.{LeavesZero, above_after, zero_after}
+use Rattle.planes.proofs.CountsLaws.{LeavesZero, above_after, zero_after}
 use Rattle.planes.proofs.above_zero_after.Statement.{statement}
 use Rattle.planes.proofs.above_zero_after.Tie as tie
 

@@ -3,7 +3,7 @@ use mathlib.Core.Path.{refl, ◌∙◌}
 use native.Mathlib.Omega.{arith}
 use borrow.Author.Rules.{rules}
 use borrow.Author.Tests.{eq-eqb, ne_eqb, le-leb}
-use Rattle.planes.specs.LaneLaws.{bit_from}
+use Rattle.planes.proofs.LaneLaws.{bit_from}
 use Rattle.planes.proofs.holding.Statement.{statement}
 use Rattle.planes.proofs.holding.Tie as tie
 

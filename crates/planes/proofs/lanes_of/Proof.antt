@@ -3,7 +3,7 @@ use mathlib.Core.Path.{ap₂, ◌∙◌}
 use mathlib.Core.Bool.{◌&&◌}
 use borrow.Author.Rules.{rules}
 use Rattle.planes.specs.Machine.{test_of}
-use Rattle.planes.specs.LaneLaws.{bit-bit_and}
+use Rattle.planes.proofs.LaneLaws.{bit-bit_and}
 use Rattle.planes.proofs.lanes_of.Statement.{statement}
 use Rattle.planes.proofs.lanes_of.Tie as tie
 

@@ -5,7 +5,7 @@ use native.Mathlib.Omega.{arith}
 use lib.ListN.{length, length-set}
 use Rattle.formula.specs.Machine.{length_at, literal_at, clause_at}
 use Rattle.planes.specs.Machine.{row_count, occurrence_cells, Marked}
-use Rattle.planes.specs.OccurLaws.{first_of, marked_none, mark_step}
+use Rattle.planes.proofs.OccurLaws.{first_of, marked_none, mark_step}
 use Rattle.planes.proofs.mark.Statement.{statement}
 use Rattle.planes.proofs.mark.Tie as tie
 

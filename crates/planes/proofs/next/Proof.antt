@@ -9,13 +9,13 @@ use lib.Bits.{bit_and, and_le_l}
 use lib.Count.{count_trailing_zeros, trailing_le}
 use borrow.Author.Tests.{leb-true}
 use lib.Dec.{eqb, leb}
-use Rattle.words.specs.ListLaws.{and_right}
+use Rattle.words.proofs.ListLaws.{and_right}
 use Rattle.words.specs.Bits.{bit}
-use Rattle.words.specs.BitLaws.{trailing_at}
+use Rattle.words.proofs.BitLaws.{trailing_at}
 use Rattle.formula.specs.Formula.{Clause}
 use Rattle.planes.specs.Machine.{lanes, first_counter, second_counter, words_of, Counts, Passing, First, wanted, Occurs}
-use Rattle.planes.specs.LaneLaws.{same_order, bit-bit_and, bit_from}
-use Rattle.planes.specs.CountsLaws.{passing_none, passing_lowest, passing_told, passing_also, kind_past, bit_held, first_end, first_from}
+use Rattle.planes.proofs.LaneLaws.{same_order, bit-bit_and, bit_from}
+use Rattle.planes.proofs.CountsLaws.{passing_none, passing_lowest, passing_told, passing_also, kind_past, bit_held, first_end, first_from}
 use Rattle.planes.proofs.next.Statement.{statement}
 use Rattle.planes.proofs.next.Tie as tie
 

@@ -5,9 +5,9 @@ use native.Mathlib.Omega.{arith}
 use lib.ListN.{length}
 use Rattle.words.specs.Bits.{width}
 use Rattle.formula.specs.Machine.{length_at, literal_at, IsLiteral, Row}
-use Rattle.formula.specs.TableLaws.{clause_known, table_row, table_wider}
+use Rattle.formula.proofs.TableLaws.{clause_known, table_row, table_wider}
 use Rattle.planes.specs.Machine.{Occurs, occurrence_cells}
-use Rattle.planes.specs.OccurLaws.{occurs_none, occurs_more}
+use Rattle.planes.proofs.OccurLaws.{occurs_none, occurs_more}
 use Rattle.planes.proofs.occurrences.Statement.{statement}
 use Rattle.planes.proofs.occurrences.Tie as tie
 

@@ -4,9 +4,9 @@ use Prim.Native.Nat.{◌+◌, ◌-◌, ◌*◌}
 use native.Mathlib.Omega.{arith}
 use lib.Pow.{pow_pos}
 use borrow.Author.Tests.{lt-leb}
-use Rattle.words.specs.BitLaws.{bit_zero}
+use Rattle.words.proofs.BitLaws.{bit_zero}
 use Rattle.planes.specs.Machine.{lanes}
-use Rattle.planes.specs.LaneLaws.{same_order, one_shl, bit_from}
+use Rattle.planes.proofs.LaneLaws.{same_order, one_shl, bit_from}
 use Rattle.planes.proofs.past.Statement.{statement}
 use Rattle.planes.proofs.past.Tie as tie
 

@@ -1,6 +1,6 @@
 -- `put_slot` meets its contract: its four stores are `stored`.
 use native.Mathlib.Omega.{arith}
-use Rattle.planes.specs.PlaneLaws.{stored_slot}
+use Rattle.planes.proofs.PlaneLaws.{stored_slot}
 use Rattle.planes.proofs.put_slot.Statement.{statement}
 use Rattle.planes.proofs.put_slot.Tie as tie
 

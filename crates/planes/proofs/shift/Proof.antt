@@ -3,8 +3,8 @@ use Prim.Native.Nat.{◌-◌}
 use native.Mathlib.Omega.{arith}
 use borrow.Author.Rules.{rules}
 use Rattle.planes.specs.Machine.{first_counter, second_counter}
-use Rattle.planes.specs.PlaneLaws.{FirstWords, words_none, words_step}
-use Rattle.planes.specs.CountsLaws.{MovesTo, all_shifted}
+use Rattle.planes.proofs.PlaneLaws.{FirstWords, words_none, words_step}
+use Rattle.planes.proofs.CountsLaws.{MovesTo, all_shifted}
 use Rattle.planes.proofs.shift.Statement.{statement}
 use Rattle.planes.proofs.shift.Tie as tie
 

@@ -5,8 +5,8 @@ use Prim.Native.Nat.{◌-◌}
 use native.Mathlib.Omega.{arith}
 use borrow.Author.Rules.{rules}
 use Rattle.planes.specs.Machine.{words_of, Summed}
-use Rattle.planes.specs.PlaneLaws.{FirstWords, words_none, words_step}
-use Rattle.planes.specs.StartLaws.{start_counts}
+use Rattle.planes.proofs.PlaneLaws.{FirstWords, words_none, words_step}
+use Rattle.planes.proofs.StartLaws.{start_counts}
 use Rattle.planes.proofs.start.Statement.{statement}
 use Rattle.planes.proofs.start.Tie as tie
 

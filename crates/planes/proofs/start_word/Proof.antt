@@ -3,7 +3,7 @@ use mathlib.Core.Path.{◌≡◌}
 use Prim.Native.Nat.{◌-◌, ◌≤◌}
 use native.Mathlib.Omega.{arith}
 use Rattle.planes.specs.Machine.{Summed}
-use Rattle.planes.specs.StartLaws.{row_below, summed_none, summed_more}
+use Rattle.planes.proofs.StartLaws.{row_below, summed_none, summed_more}
 use Rattle.planes.proofs.start_word.Statement.{statement}
 use Rattle.planes.proofs.start_word.Tie as tie
 

@@ -1,7 +1,7 @@
 -- `in_one` meets its contract, by its three ways.
 use borrow.Author.Rules.{rules}
 use Rattle.tree.specs.Machine.{answer_in}
-use Rattle.tree.specs.LegLaws.{cut}
+use Rattle.tree.specs.Legs.{cut}
 use Rattle.search.proofs.in_one.Statement.{statement}
 use Rattle.search.proofs.in_one.Tie as tie
 

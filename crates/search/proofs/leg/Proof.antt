@@ -3,8 +3,8 @@ use mathlib.Core.Path.{ap, ◌∙◌}
 use Prim.Native.Nat.{ℕ, ◌+◌, ◌*◌}
 use native.Mathlib.Omega.{arith}
 use borrow.Author.Rules.{rules}
-use Rattle.formula.specs.TableLaws.{table_wider}
-use Rattle.search.specs.LayoutLaws.{reach_is}
+use Rattle.formula.proofs.TableLaws.{table_wider}
+use Rattle.search.proofs.LayoutLaws.{reach_is}
 use Rattle.ball.specs.Machine.{Ready}
 use Rattle.search.proofs.leg.Statement.{statement}
 use Rattle.search.proofs.leg.Tie as tie

@@ -3,8 +3,8 @@ use mathlib.Core.Path.{sym, ap, ◌∙◌}
 use native.Mathlib.Omega.{arith}
 use borrow.Author.Rules.{rules}
 use Rattle.tree.specs.Legs.{Progress}
-use Rattle.tree.specs.LegLaws.{cut}
-use Rattle.search.specs.CallLaws.{answer_balls}
+use Rattle.tree.specs.Legs.{cut}
+use Rattle.search.proofs.CallLaws.{answer_balls}
 use Rattle.search.specs.Machine.{search_in, progress_in}
 use Rattle.search.proofs.run.Statement.{statement}
 use Rattle.search.proofs.run.Tie as tie

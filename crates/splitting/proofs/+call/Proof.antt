@@ -11,10 +11,11 @@ use borrow.Fn.Kinds.{In}
 use borrow.Fn.PlainCycle.{Measures, is, falls, and}
 use Rattle.words.specs.Bits.{width}
 use Rattle.tree.specs.Machine.{answer_in}
-use Rattle.tree.specs.BudgetLaws.{settle, call_spent}
+use Rattle.tree.specs.Budget.{settle}
+use Rattle.tree.proofs.BudgetLaws.{call_spent}
 use Rattle.splitting.specs.Machine.{node_in, some_closed, Standing, call_from}
-use Rattle.splitting.specs.SetLaws.{sign_row}
-use Rattle.splitting.specs.MachineLaws.{call_lost, call_sure, call_left, standing_zero, standing_one, not_none, splits_stops, splits_next}
+use Rattle.splitting.proofs.SetLaws.{sign_row}
+use Rattle.splitting.proofs.MachineLaws.{call_lost, call_sure, call_left, standing_zero, standing_one, not_none, splits_stops, splits_next}
 use Rattle.splitting.proofs.call.Reads as call
 use Rattle.splitting.proofs.call.Kinds as call-kinds
 use Rattle.splitting.proofs.+call.Lts-call as call-lts

@@ -2,7 +2,7 @@
 use mathlib.Core.Path.{◌∙◌}
 use borrow.Author.Rules.{rules}
 use Rattle.splitting.specs.Machine.{node_in, Standing}
-use Rattle.splitting.specs.MachineLaws.{standing_start, from_start}
+use Rattle.splitting.proofs.MachineLaws.{standing_start, from_start}
 use Rattle.splitting.proofs.split.Statement.{statement}
 use Rattle.splitting.proofs.split.Tie as tie
 

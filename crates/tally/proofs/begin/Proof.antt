@@ -4,11 +4,11 @@ use Prim.Native.Nat.{◌≤◌}
 use native.Mathlib.Omega.{arith}
 use Rattle.words.specs.Bits.{width}
 use Rattle.formula.specs.Machine.{Table}
-use Rattle.formula.specs.TableLaws.{table_wider}
-use Rattle.formula.specs.ReadingLaws.{read_ready}
+use Rattle.formula.proofs.TableLaws.{table_wider}
+use Rattle.formula.proofs.ReadingLaws.{read_ready}
 use Rattle.tally.specs.Tally.{tally_in}
 use Rattle.tally.specs.Machine.{changed}
-use Rattle.tally.specs.MachineLaws.{begin_stops, begin_made}
+use Rattle.tally.proofs.MachineLaws.{begin_stops, begin_made}
 use borrow.Author.Rules.{rules}
 use Rattle.tally.proofs.begin.Statement.{statement}
 use Rattle.tally.proofs.begin.Tie as tie

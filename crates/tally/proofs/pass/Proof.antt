@@ -3,9 +3,9 @@ use Prim.Native.Nat.{◌-◌, ◌<◌}
 use native.Mathlib.Omega.{arith}
 use lib.ListN.{length}
 use Rattle.formula.specs.Machine.{held}
-use Rattle.formula.specs.TableLaws.{table_row, held_cons, length_held}
+use Rattle.formula.proofs.TableLaws.{table_row, held_cons, length_held}
 use Rattle.tally.specs.Machine.{changed, Passing}
-use Rattle.tally.specs.MachineLaws.{passing_start, passing_next, passing_end}
+use Rattle.tally.proofs.MachineLaws.{passing_start, passing_next, passing_end}
 use Rattle.tally.proofs.pass.Statement.{statement}
 use Rattle.tally.proofs.pass.Tie as tie
 

@@ -4,7 +4,7 @@ use Prim.Native.Nat.{◌+◌, ◌-◌, ◌≤◌, min}
 use native.Mathlib.Nat.{zero-min, min-eq_left, min-eq_right}
 use native.Mathlib.Omega.{arith}
 use Rattle.formula.specs.Formula.{clause_limit}
-use Rattle.tally.specs.MachineLaws.{recounted_none, recounted_leaves, recounted_stays, recounted_falls}
+use Rattle.tally.proofs.MachineLaws.{recounted_none, recounted_leaves, recounted_stays, recounted_falls}
 use borrow.Author.Rules.{rules}
 use Rattle.tally.proofs.recounted.Statement.{statement}
 use Rattle.tally.proofs.recounted.Tie as tie

@@ -7,11 +7,11 @@ use borrow.Author.Rules.{rules}
 use borrow.Author.Tests.{ltb-true, ltb-false}
 use Rattle.words.specs.Bits.{width, toggle}
 use Rattle.formula.specs.Machine.{Table}
-use Rattle.formula.specs.TableLaws.{table_wider}
-use Rattle.formula.specs.ReadingLaws.{read_ready}
+use Rattle.formula.proofs.TableLaws.{table_wider}
+use Rattle.formula.proofs.ReadingLaws.{read_ready}
 use Rattle.tally.specs.Tally.{tally_in}
 use Rattle.tally.specs.Machine.{changed}
-use Rattle.tally.specs.MachineLaws.{toggle_stops, toggle_none, toggle_made}
+use Rattle.tally.proofs.MachineLaws.{toggle_stops, toggle_none, toggle_made}
 use Rattle.tally.proofs.toggle.Statement.{statement}
 use Rattle.tally.proofs.toggle.Tie as tie
 

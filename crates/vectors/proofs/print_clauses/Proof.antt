@@ -4,7 +4,7 @@ use Prim.Native.Nat.{◌-◌, ◌<◌}
 use native.Mathlib.Omega.{arith}
 use lib.ListN.{length}
 use borrow.Author.Rules.{rules}
-use Rattle.formula.specs.TableLaws.{rows_row}
+use Rattle.formula.proofs.TableLaws.{rows_row}
 use Rattle.vectors.proofs.print_clauses.Statement.{statement}
 use Rattle.vectors.proofs.print_clauses.Tie as tie
 

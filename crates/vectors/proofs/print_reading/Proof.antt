@@ -1,7 +1,7 @@
 -- `print_reading` hands on a table that holds clauses: that is what an accepted sheet's reading says.
 use borrow.Author.Rules.{rules}
-use Rattle.formula.specs.ReadingLaws.{sheet_accepted}
-use Rattle.formula.specs.TableLaws.{table_rows}
+use Rattle.formula.proofs.ReadingLaws.{sheet_accepted}
+use Rattle.formula.proofs.TableLaws.{table_rows}
 use Rattle.vectors.proofs.print_reading.Statement.{statement}
 use Rattle.vectors.proofs.print_reading.Tie as tie
 

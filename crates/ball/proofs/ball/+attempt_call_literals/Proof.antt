@@ -15,18 +15,18 @@ use borrow.Fn.PlainCycle.{Measures, is, falls, and}
 use lib.ListN.{length}
 use Rattle.words.specs.Machine.{set_of}
 use Rattle.planes.specs.Machine.{plane_cells}
-use Rattle.planes.specs.CountsLaws.{first_same}
+use Rattle.planes.proofs.CountsLaws.{first_same}
 use Rattle.formula.specs.Machine.{clause_at, length_at, literal_at}
 use Rattle.formula.specs.Formula.{literal_of}
 use Rattle.ball.specs.Ball.{State, flip}
 use Rattle.tree.specs.Budget.{Answer}
-use Rattle.tree.specs.BudgetLaws.{settle}
+use Rattle.tree.specs.Budget.{settle}
 use Rattle.tree.specs.Machine.{answer_in}
-use Rattle.planes.specs.CountsLaws.{literal_rows}
-use Rattle.ball.specs.ForcedLaws.{forces_same, standing_flip}
-use Rattle.ball.specs.ChoiceLaws.{zero_false}
+use Rattle.planes.proofs.CountsLaws.{literal_rows}
+use Rattle.ball.proofs.ForcedLaws.{forces_same, standing_flip}
+use Rattle.ball.proofs.ChoiceLaws.{zero_false}
 use Rattle.ball.specs.Machine.{state_in, Standing, FirstFalse, Selected, Trying, Turn, call_from, literals_from}
-use Rattle.ball.specs.MachineLaws.{in_spent, in_clear, in_none, in_literals, trying_row, trying_known, free, trying_attempt, turn_start, turn_end, turn_passed, turn_stops, turn_next, not_none}
+use Rattle.ball.proofs.MachineLaws.{in_spent, in_clear, in_none, in_literals, trying_row, trying_known, free, trying_attempt, turn_start, turn_end, turn_passed, turn_stops, turn_next, not_none}
 use Rattle.ball.proofs.ball.attempt.Reads as attempt
 use Rattle.ball.proofs.ball.attempt.Kinds as attempt-kinds
 use Rattle.ball.proofs.ball.+attempt_call_literals.Lts-attempt as attempt-lts

@@ -6,7 +6,7 @@ use borrow.Author.Tests.{leb-true, leb-false}
 use borrow.Author.Rules.{rules}
 use Rattle.ball.specs.Ball.{State}
 use Rattle.ball.specs.Machine.{state_in}
-use Rattle.ball.specs.MachineLaws.{last_spent, last_clear, last_none}
+use Rattle.ball.proofs.MachineLaws.{last_spent, last_clear, last_none}
 use Rattle.ball.proofs.ball.last_attempt.Statement.{statement}
 use Rattle.ball.proofs.ball.last_attempt.Tie as tie
 

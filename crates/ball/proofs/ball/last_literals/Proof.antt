@@ -8,11 +8,11 @@ use borrow.Author.Rules.{rules}
 use Rattle.words.specs.Machine.{set_of}
 use Rattle.formula.specs.Formula.{literal_of}
 use Rattle.formula.specs.Machine.{length_at, literal_at}
-use Rattle.tree.specs.BudgetLaws.{settle}
+use Rattle.tree.specs.Budget.{settle}
 use Rattle.tree.specs.Machine.{answer_in}
 use Rattle.ball.specs.Ball.{flip}
 use Rattle.ball.specs.Machine.{state_in, Turn, call_from}
-use Rattle.ball.specs.MachineLaws.{trying_row, trying_known, free, trying_attempt, turn_start, turn_end, turn_passed, turn_stops, turn_next, not_none}
+use Rattle.ball.proofs.MachineLaws.{trying_row, trying_known, free, trying_attempt, turn_start, turn_end, turn_passed, turn_stops, turn_next, not_none}
 use Rattle.ball.proofs.ball.last_literals.Statement.{statement}
 use Rattle.ball.proofs.ball.last_literals.Tie as tie
 

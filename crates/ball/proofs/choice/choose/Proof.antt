@@ -1,5 +1,5 @@
 -- `choose` meets its contract: the first clause that meets S or L, or else the first false one.
-use Rattle.ball.specs.ChoiceLaws.{selected_here, selected_first}
+use Rattle.ball.proofs.ChoiceLaws.{selected_here, selected_first}
 use native.Mathlib.Omega.{arith}
 use Rattle.ball.proofs.choice.choose.Statement.{statement}
 use Rattle.ball.proofs.choice.choose.Tie as tie

@@ -9,7 +9,7 @@ use borrow.Author.Tests.{not-true}
 use Rattle.words.specs.Machine.{set_of, Meets}
 use Rattle.formula.specs.Machine.{clause_at}
 use Rattle.ball.specs.Ball.{State, is_true}
-use Rattle.ball.specs.ChoiceLaws.{spared_meets, spared_none, unspared_next, zero_false}
+use Rattle.ball.proofs.ChoiceLaws.{spared_meets, spared_none, unspared_next, zero_false}
 use Rattle.ball.specs.Machine.{Ready, Shows, Standing, is_spared, FirstFalse}
 use Rattle.ball.proofs.choice.first_lone.Statement.{statement}
 use Rattle.ball.proofs.choice.first_lone.Tie as tie

@@ -10,7 +10,7 @@ use Rattle.words.specs.Machine.{set_of}
 use Rattle.formula.specs.Formula.{names}
 use Rattle.formula.specs.Machine.{clause_at}
 use Rattle.ball.specs.Ball.{State}
-use Rattle.ball.specs.ForcedLaws.{gathered_none, gathered_next}
+use Rattle.ball.proofs.ForcedLaws.{gathered_none, gathered_next}
 use Rattle.ball.specs.Machine.{Ready, Shows, is_new, Gathered}
 use Rattle.ball.proofs.choice.gather.Statement.{statement}
 use Rattle.ball.proofs.choice.gather.Tie as tie

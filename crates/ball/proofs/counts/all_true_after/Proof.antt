@@ -1,6 +1,6 @@
 -- `all_true_after` meets its contract: a clause is true where its count is above 0.
-use Rattle.planes.specs.CountsLaws.{literal_rows}
-use Rattle.ball.specs.CountLaws.{settles}
+use Rattle.planes.proofs.CountsLaws.{literal_rows}
+use Rattle.ball.proofs.CountLaws.{settles}
 use Rattle.ball.proofs.counts.all_true_after.Statement.{statement}
 use Rattle.ball.proofs.counts.all_true_after.Tie as tie
 

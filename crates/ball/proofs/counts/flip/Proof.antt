@@ -1,8 +1,8 @@
 -- `flip` meets its contract: one more literal met where the literal stands, one less where its opposite stands, and one less open
 -- where the literal stands.
 use native.Mathlib.Omega.{arith}
-use Rattle.planes.specs.CountsLaws.{literal_rows}
-use Rattle.ball.specs.CountLaws.{flips}
+use Rattle.planes.proofs.CountsLaws.{literal_rows}
+use Rattle.ball.proofs.CountLaws.{flips}
 use Rattle.ball.proofs.counts.flip.Statement.{statement}
 use Rattle.ball.proofs.counts.flip.Tie as tie
 

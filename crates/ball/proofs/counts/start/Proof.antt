@@ -1,6 +1,6 @@
 -- `start` meets its contract: under the assignment 0 the negative literals are met, and the positive ones open.
 use borrow.Author.Rules.{rules}
-use Rattle.ball.specs.CountLaws.{begins}
+use Rattle.ball.proofs.CountLaws.{begins}
 use Rattle.ball.proofs.counts.start.Statement.{statement}
 use Rattle.ball.proofs.counts.start.Tie as tie
 

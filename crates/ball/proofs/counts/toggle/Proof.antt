@@ -1,6 +1,6 @@
 -- `toggle` meets its contract: at a centre what is open is what is not met, so that the second count moves against the first.
-use Rattle.planes.specs.CountsLaws.{literal_rows}
-use Rattle.ball.specs.CountLaws.{toggles}
+use Rattle.planes.proofs.CountsLaws.{literal_rows}
+use Rattle.ball.proofs.CountLaws.{toggles}
 use Rattle.ball.proofs.counts.toggle.Statement.{statement}
 use Rattle.ball.proofs.counts.toggle.Tie as tie
 

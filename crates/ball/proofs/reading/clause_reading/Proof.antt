@@ -5,10 +5,10 @@ use native.Mathlib.Omega.{arith}
 use Rattle.words.specs.Bits.{width}
 use Rattle.words.specs.Machine.{bits_of}
 use Rattle.formula.specs.Machine.{Row, length_at}
-use Rattle.formula.specs.TableLaws.{held_at, held_past, table_row, clause_known}
+use Rattle.formula.proofs.TableLaws.{held_at, held_past, table_row, clause_known}
 use Rattle.ball.specs.Ball.{reading}
 use Rattle.ball.specs.Machine.{reading_in, Counting}
-use Rattle.ball.specs.ClauseLaws.{counting_none, counting_start, counting_small, counting_next, counting_end}
+use Rattle.ball.proofs.ClauseLaws.{counting_none, counting_start, counting_small, counting_next, counting_end}
 use Rattle.ball.proofs.reading.clause_reading.Statement.{statement}
 use Rattle.ball.proofs.reading.clause_reading.Tie as tie
 

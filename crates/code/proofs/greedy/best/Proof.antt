@@ -4,8 +4,8 @@ use Prim.Native.Nat.{ℕ}
 use native.Mathlib.Nat.{ne_of_lt}
 use lib.ListN.{length, get_or}
 use Rattle.code.specs.Code.{best}
-use Rattle.code.specs.ChosenLaws.{best_lt, best_first}
-use Rattle.code.specs.MachineLaws.{peak_best}
+use Rattle.code.proofs.ChosenLaws.{best_lt, best_first}
+use Rattle.code.proofs.MachineLaws.{peak_best}
 use borrow.Author.Rules.{rules}
 use Rattle.code.proofs.greedy.best.Statement.{statement}
 use Rattle.code.proofs.greedy.best.Tie as tie

@@ -4,7 +4,7 @@ use mathlib.Core.Logic.{⊎_elim}
 use Prim.Native.Nat.{◌-◌, ◌<◌}
 use lib.ListN.{length}
 use Rattle.code.specs.Machine.{Joining}
-use Rattle.code.specs.MachineLaws.{join_start, join_lt, join_set, join_clear, join_end, flag_lowers}
+use Rattle.code.proofs.MachineLaws.{join_start, join_lt, join_set, join_clear, join_end, flag_lowers}
 use borrow.Author.Rules.{rules}
 use Rattle.code.proofs.greedy.cover.Statement.{statement}
 use Rattle.code.proofs.greedy.cover.Tie as tie

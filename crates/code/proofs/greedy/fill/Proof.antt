@@ -7,7 +7,7 @@ use lib.Pow.{pow_pos}
 use lib.Seq.{length-take-le}
 use Rattle.code.specs.Code.{ball as ballOf, words_of}
 use Rattle.code.specs.Machine.{Growing}
-use Rattle.code.specs.GrowLaws.{part_length, part_at, grow_start, grow_lt, grow_room, grow_fits, grow_next, grow_end}
+use Rattle.code.proofs.GrowLaws.{part_length, part_at, grow_start, grow_lt, grow_room, grow_fits, grow_next, grow_end}
 use borrow.Author.Rules.{rules}
 use native.Mathlib.Omega.{arith}
 use Rattle.code.proofs.greedy.fill.Statement.{statement}

@@ -7,7 +7,7 @@ use lib.ListN.{length, take, length-set}
 use borrow.Author.Rules.{rules}
 use Rattle.words.specs.Lists.{keep, span}
 use Rattle.code.specs.Code.{near}
-use Rattle.code.specs.MachineLaws.{ball_skip, ball_next}
+use Rattle.code.proofs.MachineLaws.{ball_skip, ball_next}
 use Rattle.code.proofs.greedy.list_ball.Statement.{statement}
 use Rattle.code.proofs.greedy.list_ball.Tie as tie
 

@@ -3,7 +3,7 @@ use Prim.Native.Nat.{◌-◌, ◌≤◌, ◌<◌, zero-le}
 use lib.ListN.{length, take}
 use lib.Seq.{take_all}
 use Rattle.code.specs.Machine.{Lowered}
-use Rattle.code.specs.MachineLaws.{lower_start, lower_lt, lower_pos, lower_next}
+use Rattle.code.proofs.MachineLaws.{lower_start, lower_lt, lower_pos, lower_next}
 use borrow.Author.Rules.{rules}
 use native.Mathlib.Omega.{arith}
 use Rattle.code.proofs.greedy.lower.Statement.{statement}

@@ -3,7 +3,7 @@ use mathlib.Core.Path.{◌≡◌}
 use Prim.Native.Nat.{ℕ, ◌≤◌, ◌<◌, ◌-◌}
 use borrow.Author.Count.{below_more}
 use lib.ListN.{length, get_or}
-use Rattle.code.specs.MachineLaws.{first_same}
+use Rattle.code.proofs.MachineLaws.{first_same}
 use borrow.Author.Rules.{rules}
 use native.Mathlib.Omega.{arith}
 use Rattle.code.proofs.greedy.place.Statement.{statement}

@@ -4,7 +4,7 @@ use mathlib.Core.Logic.{⊎_elim}
 use Prim.Native.Nat.{ℕ, ◌≤◌, ◌-◌}
 use lib.ListN.{length, get_or}
 use Rattle.code.specs.Machine.{peak}
-use Rattle.code.specs.MachineLaws.{peak_more, peak_keep}
+use Rattle.code.proofs.MachineLaws.{peak_more, peak_keep}
 use borrow.Author.Rules.{rules}
 use native.Mathlib.Omega.{arith}
 use Rattle.code.proofs.greedy.top.Statement.{statement}

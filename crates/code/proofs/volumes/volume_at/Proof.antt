@@ -4,8 +4,8 @@ use Prim.Native.Nat.{◌+◌, ◌-◌, ◌*◌, ◌/◌, ◌≤◌, min, zero-le
 use native.Mathlib.Omega.{arith}
 use lib.Pow.{pow_mono}
 use Rattle.code.specs.Volume.{choose, volume}
-use Rattle.code.specs.VolumeLaws.{volume_zero, volume_most}
-use Rattle.code.specs.ChooseLaws.{choose_quotient, product_most, volume_next, volume_last}
+use Rattle.code.proofs.VolumeLaws.{volume_zero, volume_most}
+use Rattle.code.proofs.ChooseLaws.{choose_quotient, product_most, volume_next, volume_last}
 use Rattle.code.specs.Operations.{block_limit}
 use borrow.Author.Rules.{rules}
 use Rattle.code.proofs.volumes.volume_at.Statement.{statement}

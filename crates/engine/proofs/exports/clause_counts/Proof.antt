@@ -2,12 +2,12 @@
 use mathlib.Core.Path.{ap, ap₂, ◌∙◌}
 use Prim.Native.Nat.{ℕ}
 use Rattle.words.specs.Bits.{width}
-use Rattle.formula.specs.TableLaws.{table_wider}
-use Rattle.formula.specs.ReadingLaws.{read_ready}
+use Rattle.formula.proofs.TableLaws.{table_wider}
+use Rattle.formula.proofs.ReadingLaws.{read_ready}
 use Rattle.ball.specs.Ball.{State}
 use Rattle.ball.specs.Machine.{reading_in}
 use Rattle.engine.specs.Replies.{clause_counts_to}
-use Rattle.engine.specs.MachineLaws.{counts_declined, counts_read}
+use Rattle.engine.proofs.MachineLaws.{counts_declined, counts_read}
 use borrow.Author.Rules.{rules}
 use Rattle.engine.proofs.exports.clause_counts.Statement.{statement}
 use Rattle.engine.proofs.exports.clause_counts.Tie as tie

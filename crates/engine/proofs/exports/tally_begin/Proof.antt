@@ -1,5 +1,5 @@
 -- `tally_begin` meets its contract: what `begin` comes to, in numbers.
-use Rattle.engine.specs.MachineLaws.{tally_made}
+use Rattle.engine.proofs.MachineLaws.{tally_made}
 use borrow.Author.Rules.{rules}
 use Rattle.engine.proofs.exports.tally_begin.Statement.{statement}
 use Rattle.engine.proofs.exports.tally_begin.Tie as tie

@@ -1,5 +1,5 @@
 -- `tally_toggle` meets its contract: what `toggle` comes to, in numbers.
-use Rattle.engine.specs.MachineLaws.{tally_made}
+use Rattle.engine.proofs.MachineLaws.{tally_made}
 use borrow.Author.Rules.{rules}
 use Rattle.engine.proofs.exports.tally_toggle.Statement.{statement}
 use Rattle.engine.proofs.exports.tally_toggle.Tie as tie

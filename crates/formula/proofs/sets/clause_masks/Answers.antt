@@ -2,8 +2,8 @@ use mathlib.Core.Path.{◌≡◌, subst}
 use Prim.Native.Nat.{ℕ}
 use native.Mathlib.Omega.{arith}
 use Rattle.formula.specs.Machine.{Masks}
-use Rattle.formula.specs.TableLaws.{rows_row}
-use Rattle.formula.specs.MaskLaws.{masks_none, masks_next}
+use Rattle.formula.proofs.TableLaws.{rows_row}
+use Rattle.formula.proofs.MaskLaws.{masks_none, masks_next}
 use Rattle.formula.proofs.sets.clause_masks.Goals as goal
 
 pub loop-i-init : goal.loop-i-init

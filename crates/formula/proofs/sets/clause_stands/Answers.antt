@@ -1,7 +1,7 @@
 use mathlib.Core.Path.{refl, sym, ◌∙◌}
 use native.Mathlib.Omega.{arith}
-use Rattle.words.specs.ListLaws.{some_found, some_next, some_none}
-use Rattle.formula.specs.TableLaws.{held_cons, held_end, rows_row}
+use Rattle.words.proofs.ListLaws.{some_found, some_next, some_none}
+use Rattle.formula.proofs.TableLaws.{held_cons, held_end, rows_row}
 use Rattle.formula.proofs.sets.clause_stands.Goals as goal
 
 pub loop-k-init : goal.loop-k-init

@@ -1,8 +1,8 @@
 use mathlib.Core.Path.{refl, sym, ◌∙◌}
 use native.Mathlib.Omega.{arith}
 use Rattle.formula.specs.Sets.{within}
-use Rattle.words.specs.ListLaws.{every_fails, every_next, every_holds}
-use Rattle.formula.specs.TableLaws.{row_cons, row_end}
+use Rattle.words.proofs.ListLaws.{every_fails, every_next, every_holds}
+use Rattle.formula.proofs.TableLaws.{row_cons, row_end}
 use Rattle.formula.proofs.sets.clause_within.Goals as goal
 
 pub loop-j-init : goal.loop-j-init

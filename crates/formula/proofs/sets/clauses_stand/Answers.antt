@@ -1,7 +1,7 @@
 -- `sets::clauses_stand` meets its contract: all clauses stand where none is lacking.
 use mathlib.Core.Path.{sym, ap, ◌∙◌}
 use Rattle.formula.specs.Sheet.{header_words}
-use Rattle.formula.specs.LackingLaws.{lacks_none, lacking_stands}
+use Rattle.formula.proofs.LackingLaws.{lacks_none, lacking_stands}
 use Rattle.formula.proofs.sets.clauses_stand.Goals as goal
 
 pub returns-in-Nothing : goal.returns-in-Nothing

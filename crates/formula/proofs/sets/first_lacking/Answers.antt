@@ -3,8 +3,8 @@ use Prim.Native.Nat.{◌≤◌}
 use native.Mathlib.Omega.{arith}
 use Rattle.formula.specs.Formula.{length_limit}
 use Rattle.formula.specs.Machine.{Row}
-use Rattle.formula.specs.TableLaws.{held_cons, held_end, rows_row, row_length}
-use Rattle.formula.specs.LackingLaws.{lacking_found, lacking_next, lacking_none}
+use Rattle.formula.proofs.TableLaws.{held_cons, held_end, rows_row, row_length}
+use Rattle.formula.proofs.LackingLaws.{lacking_found, lacking_next, lacking_none}
 use Rattle.formula.proofs.sets.first_lacking.Goals as goal
 use Rattle.formula.proofs.sets.first_lacking.Goals.{After-length_at}
 

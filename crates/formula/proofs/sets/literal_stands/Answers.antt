@@ -1,9 +1,9 @@
 use mathlib.Core.Path.{refl, sym, ◌∙◌}
 use native.Mathlib.Omega.{arith}
 use borrow.Author.Tests.{eq-eqb, ne_eqb}
-use Rattle.formula.specs.SetLaws.{same_literal_words}
-use Rattle.words.specs.ListLaws.{some_found, some_next, some_none}
-use Rattle.formula.specs.TableLaws.{row_cons, row_end}
+use Rattle.formula.proofs.SetLaws.{same_literal_words}
+use Rattle.words.proofs.ListLaws.{some_found, some_next, some_none}
+use Rattle.formula.proofs.TableLaws.{row_cons, row_end}
 use Rattle.formula.proofs.sets.literal_stands.Goals as goal
 
 pub loop-j-init : goal.loop-j-init

@@ -1,6 +1,6 @@
 use native.Mathlib.Omega.{arith}
-use Rattle.formula.specs.TableLaws.{row_cons, row_end}
-use Rattle.formula.specs.MaskLaws.{marked_none, marked_next, marked_all, mark_of}
+use Rattle.formula.proofs.TableLaws.{row_cons, row_end}
+use Rattle.formula.proofs.MaskLaws.{marked_none, marked_next, marked_all, mark_of}
 use Rattle.formula.proofs.sets.mask.Goals as goal
 
 pub loop-j-init : goal.loop-j-init

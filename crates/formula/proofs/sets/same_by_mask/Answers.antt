@@ -1,7 +1,7 @@
 -- `sets::same_by_mask` meets its contract: clauses with other masks are other sets.
 use mathlib.Core.Path.{sym, ◌∙◌}
 use borrow.Author.Tests.{ne_eqb}
-use Rattle.formula.specs.MaskLaws.{mask_differs}
+use Rattle.formula.proofs.MaskLaws.{mask_differs}
 use Rattle.formula.proofs.sets.same_by_mask.Goals as goal
 
 pub returns-else-own-masks : goal.returns-else-own-masks

@@ -1,7 +1,7 @@
 -- `sets::stands_still` meets its contract: a clause that is the same set as one of b's is found.
 use mathlib.Core.Path.{sym, ◌∙◌}
-use Rattle.words.specs.ListLaws.{in_some}
-use Rattle.formula.specs.TableLaws.{held_in, rows_row}
+use Rattle.words.proofs.ListLaws.{in_some}
+use Rattle.formula.proofs.TableLaws.{held_in, rows_row}
 use Rattle.formula.proofs.sets.stands_still.Goals as goal
 
 pub same_set-requires : goal.same_set-requires

@@ -1,5 +1,5 @@
 use native.Mathlib.Omega.{arith}
-use Rattle.formula.specs.RowLaws.{copy_start, copy_next, copy_done}
+use Rattle.formula.proofs.RowLaws.{copy_start, copy_next, copy_done}
 use Rattle.formula.proofs.table.copy_row.Goals as goal
 
 pub loop-x-init : goal.loop-x-init

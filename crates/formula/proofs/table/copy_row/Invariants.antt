@@ -1,7 +1,7 @@
 -- `table::copy_row` meets its contract: before each turn the first x cells of the row are copied.
 use Prim.Native.Nat.{◌-◌}
 use Rattle.formula.specs.Machine.{row_cells}
-use Rattle.formula.specs.RowLaws.{Copying}
+use Rattle.formula.proofs.RowLaws.{Copying}
 use Rattle.formula.proofs.table.copy_row.Given as goal
 
 abbrev pub invariant-loop-x : goal.invariant-loop-x

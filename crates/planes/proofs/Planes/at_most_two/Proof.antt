@@ -5,8 +5,8 @@ use borrow.Author.Rules.{rules}
 use lib.Bits.{and_lt, or_lt}
 use Rattle.words.specs.Bits.{bit}
 use Rattle.planes.specs.Machine.{count_in}
-use Rattle.planes.specs.LaneLaws.{bit_not, bit-bit_and, bit-bit_or}
-use Rattle.planes.specs.PlaneLaws.{few_number}
+use Rattle.planes.proofs.LaneLaws.{bit_not, bit-bit_and, bit-bit_or}
+use Rattle.planes.proofs.PlaneLaws.{few_number}
 use Rattle.planes.proofs.Planes.at_most_two.Statement.{statement}
 use Rattle.planes.proofs.Planes.at_most_two.Tie as tie
 

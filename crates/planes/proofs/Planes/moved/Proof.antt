@@ -1,7 +1,7 @@
 -- `Planes::moved` meets its contract: each lane is four digits that `number_moves` counts up or down.
 use Rattle.planes.specs.Machine.{count_in}
-use Rattle.planes.specs.LaneLaws.{bit-bit_xor, bit-bit_and}
-use Rattle.planes.specs.PlaneLaws.{number_moves}
+use Rattle.planes.proofs.LaneLaws.{bit-bit_xor, bit-bit_and}
+use Rattle.planes.proofs.PlaneLaws.{number_moves}
 use Rattle.planes.proofs.Planes.moved.Statement.{statement}
 use Rattle.planes.proofs.Planes.moved.Tie as tie
 

@@ -5,8 +5,8 @@ use borrow.Author.Rules.{rules}
 use lib.Bits.{or_lt}
 use Rattle.words.specs.Bits.{bit}
 use Rattle.planes.specs.Machine.{count_in}
-use Rattle.planes.specs.LaneLaws.{bit_not, bit-bit_or}
-use Rattle.planes.specs.PlaneLaws.{zero_number}
+use Rattle.planes.proofs.LaneLaws.{bit_not, bit-bit_or}
+use Rattle.planes.proofs.PlaneLaws.{zero_number}
 use Rattle.planes.proofs.Planes.zeros.Statement.{statement}
 use Rattle.planes.proofs.Planes.zeros.Tie as tie
 

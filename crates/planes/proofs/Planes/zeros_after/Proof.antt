@@ -3,8 +3,8 @@ use mathlib.Core.Path.{◌∙◌}
 use native.Mathlib.Omega.{arith}
 use Rattle.words.specs.Bits.{bit}
 use Rattle.planes.specs.Machine.{count_in}
-use Rattle.planes.specs.LaneLaws.{bit-bit_xor, bit-bit_or}
-use Rattle.planes.specs.PlaneLaws.{zero_moves}
+use Rattle.planes.proofs.LaneLaws.{bit-bit_xor, bit-bit_or}
+use Rattle.planes.proofs.PlaneLaws.{zero_moves}
 use Rattle.planes.proofs.Planes.zeros_after.Statement.{statement}
 use Rattle.planes.proofs.Planes.zeros_after.Tie as tie
 

@@ -7,7 +7,7 @@ use Rattle.words.specs.Bits.{toggle}
 use Rattle.words.specs.Machine.{set_of}
 use Rattle.formula.specs.Machine.{length_at, literal_at, clause_at, IsLiteral}
 use Rattle.planes.specs.Machine.{NamedBy}
-use Rattle.planes.specs.OccurLaws.{first_of, named_none, named_step}
+use Rattle.planes.proofs.OccurLaws.{first_of, named_none, named_step}
 use Rattle.planes.proofs.clause_sets.clause_set.Statement.{statement}
 use Rattle.planes.proofs.clause_sets.clause_set.Tie as tie
 

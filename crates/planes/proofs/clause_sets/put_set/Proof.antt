@@ -1,7 +1,7 @@
 -- `clause_sets::put_set` meets its contract: its two stores are those of `set_stored`.
 use borrow.Author.Rules.{rules}
 use lib.ListN.{length-set}
-use Rattle.planes.specs.OccurLaws.{set_stored}
+use Rattle.planes.proofs.OccurLaws.{set_stored}
 use Rattle.planes.proofs.clause_sets.put_set.Statement.{statement}
 use Rattle.planes.proofs.clause_sets.put_set.Tie as tie
 

@@ -7,13 +7,13 @@ use native.Mathlib.Omega.{arith}
 use borrow.Author.Rules.{rules}
 use Rattle.words.specs.Machine.{bits_of}
 use Rattle.search.specs.Run.{Block, Search, ball, centre_count}
-use Rattle.tree.specs.BudgetLaws.{settle}
+use Rattle.tree.specs.Budget.{settle}
 use Rattle.ball.specs.Machine.{state_in, centred, call_from}
 use Rattle.search.specs.Machine.{Towards, blocks_in, Before, search_in, progress_in, next_in}
-use Rattle.search.specs.LayoutLaws.{towards_end, laid_some}
+use Rattle.search.proofs.LayoutLaws.{towards_end, laid_some}
 use Rattle.tree.specs.Machine.{answer_in}
-use Rattle.ball.specs.MachineLaws.{not_none}
-use Rattle.search.specs.BallsLaws.{ball_there, ball_call, path_centred, path_stands, before_start, before_end, before_stops, before_next}
+use Rattle.ball.proofs.MachineLaws.{not_none}
+use Rattle.search.proofs.BallsLaws.{ball_there, ball_call, path_centred, path_stands, before_start, before_end, before_stops, before_next}
 use Rattle.search.proofs.balls.balls.Statement.{statement}
 use Rattle.search.proofs.balls.balls.Tie as tie
 

@@ -1,6 +1,6 @@
 -- `flips` meets its contract: a clause with both numbers 0 at a centre is dead, at every centre.
 use borrow.Author.Rules.{rules}
-use Rattle.search.specs.BallsLaws.{reaching_all, reaching_none}
+use Rattle.search.proofs.BallsLaws.{reaching_all, reaching_none}
 use Rattle.search.proofs.balls.flips.Statement.{statement}
 use Rattle.search.proofs.balls.flips.Tie as tie
 

@@ -5,10 +5,10 @@ use Prim.Native.Nat.{ℕ, ◌-◌, ◌^◌, ◌<◌}
 use native.Mathlib.Omega.{arith}
 use borrow.Author.Rules.{rules}
 use Rattle.words.specs.Bits.{width}
-use Rattle.words.specs.BitLaws.{toggle_lt}
+use Rattle.words.proofs.BitLaws.{toggle_lt}
 use Rattle.words.specs.Machine.{bits_of, FirstDifference}
 use Rattle.search.specs.Machine.{Moves}
-use Rattle.search.specs.BallsLaws.{stays, moves_on, difference_later, difference_none}
+use Rattle.search.proofs.BallsLaws.{stays, moves_on, difference_later, difference_none}
 use Rattle.search.proofs.balls.recentre.Statement.{statement}
 use Rattle.search.proofs.balls.recentre.Tie as tie
 

@@ -2,8 +2,8 @@
 use mathlib.Core.Path.{sym, ap}
 use mathlib.Core.Bool.{not}
 use borrow.Author.Rules.{rules}
-use Rattle.formula.specs.SignLaws.{sign_known}
-use Rattle.search.specs.BallsLaws.{toggles}
+use Rattle.formula.proofs.SignLaws.{sign_known}
+use Rattle.search.proofs.BallsLaws.{toggles}
 use Rattle.search.proofs.balls.toggle_bit.Statement.{statement}
 use Rattle.search.proofs.balls.toggle_bit.Tie as tie
 

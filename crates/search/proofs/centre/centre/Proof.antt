@@ -5,7 +5,7 @@ use native.Mathlib.Nat.{pos_of_ne-zero}
 use native.Mathlib.Omega.{arith}
 use borrow.Author.Rules.{rules}
 use Rattle.search.specs.Machine.{Midway}
-use Rattle.search.specs.LayoutLaws.{midway_start, midway_room, midway_step, midway_none, midway_one, midway_shift}
+use Rattle.search.proofs.LayoutLaws.{midway_start, midway_room, midway_step, midway_none, midway_one, midway_shift}
 use Rattle.search.proofs.centre.centre.Statement.{statement}
 use Rattle.search.proofs.centre.centre.Tie as tie
 

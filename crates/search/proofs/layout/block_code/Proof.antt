@@ -2,7 +2,7 @@
 use mathlib.Core.Path.{◌∙◌}
 use lib.Pow.{pow_mono}
 use native.Mathlib.Omega.{arith}
-use Rattle.search.specs.LayoutLaws.{filled_words}
+use Rattle.search.proofs.LayoutLaws.{filled_words}
 use Rattle.search.proofs.layout.block_code.Statement.{statement}
 use Rattle.search.proofs.layout.block_code.Tie as tie
 

@@ -4,7 +4,7 @@ use Prim.Native.Nat.{ℕ, ◌-◌, ◌^◌, ◌≤◌, min}
 use native.Mathlib.Nat.{pow-zero}
 use native.Mathlib.Omega.{arith}
 use Rattle.search.specs.Machine.{most_centres}
-use Rattle.search.specs.LayoutLaws.{centres_more, centres_none, centres_one}
+use Rattle.search.proofs.LayoutLaws.{centres_more, centres_none, centres_one}
 use Rattle.search.proofs.layout.centres.Statement.{statement}
 use Rattle.search.proofs.layout.centres.Tie as tie
 

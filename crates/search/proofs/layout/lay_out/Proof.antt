@@ -3,7 +3,7 @@ use mathlib.Core.Path.{refl}
 use native.Mathlib.Nat.{mod-lt}
 use native.Mathlib.Omega.{arith}
 use borrow.Author.Rules.{rules}
-use Rattle.search.specs.LayoutLaws.{laid_out}
+use Rattle.search.proofs.LayoutLaws.{laid_out}
 use Rattle.search.proofs.layout.lay_out.Statement.{statement}
 use Rattle.search.proofs.layout.lay_out.Tie as tie
 

@@ -8,7 +8,7 @@ use borrow.Author.Rules.{rules}
 use Rattle.words.specs.Bits.{bit}
 use Rattle.planes.specs.Machine.{lanes, row_words, words_of}
 use Rattle.splitting.specs.Machine.{is_in}
-use Rattle.splitting.specs.SetLaws.{not_from, word_stored}
+use Rattle.splitting.proofs.SetLaws.{not_from, word_stored}
 use Rattle.splitting.proofs.clauses.all.Statement.{statement}
 use Rattle.splitting.proofs.clauses.all.Tie as tie
 

@@ -4,10 +4,10 @@ use Prim.Native.Nat.{ℕ, ◌-◌, ◌*◌, ◌^◌, ◌≤◌, ◌<◌}
 use native.Mathlib.Omega.{arith}
 use borrow.Author.Rules.{rules}
 use Rattle.planes.specs.Machine.{lanes, words_of, Passing, First}
-use Rattle.planes.specs.CountsLaws.{passing_none, passing_lowest, first_end}
+use Rattle.planes.proofs.CountsLaws.{passing_none, passing_lowest, first_end}
 use Rattle.splitting.specs.Splitting.{Node}
 use Rattle.splitting.specs.Machine.{Unmet, Opens}
-use Rattle.splitting.specs.SetLaws.{closed_at, closed_passing, closed_some, closed_none}
+use Rattle.splitting.proofs.SetLaws.{closed_at, closed_passing, closed_some, closed_none}
 use Rattle.splitting.proofs.clauses.any_closed.Statement.{statement}
 use Rattle.splitting.proofs.clauses.any_closed.Tie as tie
 

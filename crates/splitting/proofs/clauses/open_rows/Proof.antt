@@ -8,7 +8,7 @@ use borrow.Author.Rules.{rules}
 use Rattle.formula.specs.Machine.{Table}
 use Rattle.planes.specs.Machine.{row_words, Occurs}
 use Rattle.splitting.specs.Machine.{open_cells}
-use Rattle.splitting.specs.SetLaws.{OpensFrom, opens_start, opens_step}
+use Rattle.splitting.proofs.SetLaws.{OpensFrom, opens_start, opens_step}
 use Rattle.splitting.proofs.clauses.open_rows.Statement.{statement}
 use Rattle.splitting.proofs.clauses.open_rows.Tie as tie
 

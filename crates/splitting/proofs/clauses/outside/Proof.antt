@@ -1,7 +1,7 @@
 -- `outside` meets its contract: one operation on all lanes.
 use borrow.Author.Rules.{rules}
 use Prim.Native.Nat.{◌^◌, ◌<◌}
-use Rattle.words.specs.BitLaws.{bit_without}
+use Rattle.words.proofs.BitLaws.{bit_without}
 use Rattle.planes.specs.Machine.{lanes}
 use Rattle.splitting.proofs.clauses.outside.Statement.{statement}
 use Rattle.splitting.proofs.clauses.outside.Tie as tie

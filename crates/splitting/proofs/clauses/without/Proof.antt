@@ -9,7 +9,7 @@ use borrow.Author.Rules.{rules}
 use Rattle.words.specs.Bits.{bit}
 use Rattle.planes.specs.Machine.{lanes, row_words, words_of, lane}
 use Rattle.splitting.specs.Machine.{is_in}
-use Rattle.splitting.specs.SetLaws.{word_stored}
+use Rattle.splitting.proofs.SetLaws.{word_stored}
 use Rattle.splitting.proofs.clauses.without.Statement.{statement}
 use Rattle.splitting.proofs.clauses.without.Tie as tie
 

@@ -5,13 +5,13 @@ use native.Mathlib.Numerals.{add-one}
 use native.Mathlib.Omega.{arith}
 use lib.ListN.{drop}
 use Rattle.words.specs.Lists.{count}
-use Rattle.words.specs.BitLaws.{digit}
-use Rattle.words.specs.CountLaws.{count_le}
+use Rattle.words.proofs.BitLaws.{digit}
+use Rattle.words.proofs.CountLaws.{count_le}
 use Rattle.words.specs.Machine.{bits_of}
 use Rattle.formula.specs.Formula.{met}
 use Rattle.formula.specs.Machine.{length_at, clause_at}
-use Rattle.formula.specs.TableLaws.{row_count_lem, row_counted}
-use Rattle.tally.specs.MachineLaws.{literal_inside, literal_known, byte_digit}
+use Rattle.formula.proofs.TableLaws.{row_count_lem, row_counted}
+use Rattle.tally.proofs.MachineLaws.{literal_inside, literal_known, byte_digit}
 use Rattle.tally.proofs.number.met_count.Statement.{statement}
 use Rattle.tally.proofs.number.met_count.Tie as tie
 

@@ -5,13 +5,13 @@ use native.Mathlib.Omega.{arith}
 use lib.ListN.{drop}
 use borrow.Author.Tests.{eq-eqb, ne_eqb}
 use Rattle.words.specs.Lists.{some}
-use Rattle.words.specs.ListLaws.{some_next, some_none}
+use Rattle.words.proofs.ListLaws.{some_next, some_none}
 use Rattle.formula.specs.Formula.{names, literal_of}
 use Rattle.formula.specs.Machine.{length_at, literal_at, clause_at}
-use Rattle.formula.specs.CountLaws.{names?}
-use Rattle.formula.specs.TableLaws.{row_length, row_cons, row_end, row_in}
-use Rattle.tally.specs.NumberLaws.{moved_by, moved_not}
-use Rattle.tally.specs.MachineLaws.{literal_inside, literal_known}
+use Rattle.formula.proofs.CountLaws.{names?}
+use Rattle.formula.proofs.TableLaws.{row_length, row_cons, row_end, row_in}
+use Rattle.tally.proofs.NumberLaws.{moved_by, moved_not}
+use Rattle.tally.proofs.MachineLaws.{literal_inside, literal_known}
 use Rattle.tally.proofs.number.moved.Statement.{statement}
 use Rattle.tally.proofs.number.moved.Tie as tie
 

@@ -6,7 +6,7 @@ use lib.Count.{trailing_le}
 use lib.ListN.{get_or}
 use Rattle.words.specs.declared.Assignment.{Assignment}
 use Rattle.words.specs.Machine.{words_in, bits_of, Small}
-use Rattle.words.specs.WordLaws.{words_small, agree_next, agree_ends}
+use Rattle.words.proofs.WordLaws.{words_small, agree_next, agree_ends}
 use Rattle.words.proofs.Assignment.first_difference.Goals as goal
 use Rattle.words.proofs.Assignment.first_difference.Goals.{After-word-in-loop-i}
 

@@ -1,7 +1,7 @@
 -- `Assignment::first_difference` meets its contract: the words before word i are the same.
 use Prim.Native.Nat.{◌*◌, ◌-◌}
 use Rattle.words.specs.Machine.{words_in, word_count}
-use Rattle.words.specs.WordLaws.{Agree}
+use Rattle.words.proofs.WordLaws.{Agree}
 use Rattle.words.proofs.Assignment.first_difference.Given as goal
 
 abbrev pub invariant-loop-i : goal.invariant-loop-i

@@ -2,7 +2,7 @@
 use mathlib.Core.Path.{sym, ap}
 use Rattle.words.specs.Bits.{from_words}
 use Rattle.words.specs.Machine.{words_in, bits_of}
-use Rattle.words.specs.WordLaws.{words_listed}
+use Rattle.words.proofs.WordLaws.{words_listed}
 use Rattle.words.proofs.Assignment.from_words.Goals as goal
 
 pub returns : goal.returns

@@ -7,7 +7,7 @@ use lib.ListN.{get_or}
 use lib.Pow.{pow_mono, shl_exact, shl_lt}
 use Rattle.words.specs.Bits.{from_words}
 use Rattle.words.specs.Machine.{words_in, bits_of}
-use Rattle.words.specs.WordLaws.{words_count, from_words_top, from_words_joined}
+use Rattle.words.proofs.WordLaws.{words_count, from_words_top, from_words_joined}
 use Rattle.words.proofs.Assignment.joined.Goals as goal
 use Rattle.words.proofs.Assignment.joined.Goals.{After-word}
 

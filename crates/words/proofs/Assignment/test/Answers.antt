@@ -3,7 +3,7 @@ use mathlib.Core.Path.{sym}
 use native.Mathlib.Omega.{arith}
 use Rattle.words.specs.Bits.{bit}
 use Rattle.words.specs.Machine.{words_in, bits_of}
-use Rattle.words.specs.WordLaws.{words_small, from_words_bit}
+use Rattle.words.proofs.WordLaws.{words_small, from_words_bit}
 use Rattle.words.proofs.Assignment.test.Goals as goal
 
 pub word-requires : goal.word-requires

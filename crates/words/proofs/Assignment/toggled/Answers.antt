@@ -5,9 +5,9 @@ use native.Mathlib.Omega.{arith}
 use lib.Bits.{bit_xor}
 use lib.ListN.{set}
 use Rattle.words.specs.Bits.{toggle, from_words}
-use Rattle.words.specs.BitLaws.{one_shl}
+use Rattle.words.proofs.BitLaws.{one_shl}
 use Rattle.words.specs.Machine.{words_in, bits_of}
-use Rattle.words.specs.WordLaws.{words_count, words_small, from_words_toggle}
+use Rattle.words.proofs.WordLaws.{words_count, words_small, from_words_toggle}
 use Rattle.words.proofs.Assignment.toggled.Goals as goal
 
 pub word-requires : goal.word-requires

@@ -3,7 +3,7 @@ use mathlib.Core.Path.{ap, ◌∙◌}
 use Prim.Native.Nat.{ℕ, ◌%◌}
 use native.Mathlib.Omega.{arith}
 use Rattle.words.specs.Bits.{bit}
-use Rattle.words.specs.SetLaws.{Fits, low_has, high_has}
+use Rattle.words.proofs.SetLaws.{Fits, low_has, high_has}
 use Rattle.words.proofs.Set.has.Goals as goal
 use Rattle.words.proofs.Set.has.Goals.{then-v-lt-HALF, else-v-lt-HALF}
 

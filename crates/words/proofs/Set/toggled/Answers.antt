@@ -2,8 +2,8 @@
 use Prim.Native.Nat.{◌%◌}
 use native.Mathlib.Omega.{arith}
 use Rattle.words.specs.Bits.{toggle}
-use Rattle.words.specs.BitLaws.{one_shl}
-use Rattle.words.specs.SetLaws.{low_toggled, high_toggled}
+use Rattle.words.proofs.BitLaws.{one_shl}
+use Rattle.words.proofs.SetLaws.{low_toggled, high_toggled}
 use Rattle.words.proofs.Set.toggled.Goals as goal
 
 pub returns-then-v-lt-HALF : goal.returns-then-v-lt-HALF

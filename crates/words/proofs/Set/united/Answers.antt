@@ -2,8 +2,8 @@
 use mathlib.Core.Bool.{◌||◌}
 use native.Mathlib.Omega.{arith}
 use lib.Bits.{or_lt}
-use Rattle.words.specs.BitLaws.{bit-bit_or}
-use Rattle.words.specs.SetLaws.{Fits, by_bits}
+use Rattle.words.proofs.BitLaws.{bit-bit_or}
+use Rattle.words.proofs.SetLaws.{Fits, by_bits}
 use Rattle.words.proofs.Set.united.Goals as goal
 
 pub returns : goal.returns

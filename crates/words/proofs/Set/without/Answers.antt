@@ -2,8 +2,8 @@
 use mathlib.Core.Bool.{not, ◌&&◌}
 use native.Mathlib.Omega.{arith}
 use lib.Bits.{and_lt}
-use Rattle.words.specs.BitLaws.{bit_without}
-use Rattle.words.specs.SetLaws.{Fits, by_bits}
+use Rattle.words.proofs.BitLaws.{bit_without}
+use Rattle.words.proofs.SetLaws.{Fits, by_bits}
 use Rattle.words.proofs.Set.without.Goals as goal
 
 pub returns : goal.returns

@@ -3,7 +3,7 @@ use mathlib.Core.Path.{sym, ◌∙◌}
 use Rattle.formula.specs.Formula.{bit_of, literal_of}
 use Rattle.ball.specs.Ball.{is_flipped}
 use Rattle.ball.specs.Machine.{reading_in}
-use Rattle.ball.specs.ClauseLaws.{counted_met, counted_flipped, counted_open}
+use Rattle.ball.proofs.ClauseLaws.{counted_met, counted_flipped, counted_open}
 use borrow.Author.Rules.{rules}
 use Rattle.ball.proofs.reading.Reading.with_literal.Statement.{statement}
 use Rattle.ball.proofs.reading.Reading.with_literal.Tie as tie

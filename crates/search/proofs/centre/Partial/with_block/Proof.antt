@@ -11,7 +11,7 @@ use lib.Pow.{pow_mono}
 use Rattle.words.specs.Bits.{width}
 use Rattle.words.specs.Machine.{bits_of}
 use Rattle.search.specs.Machine.{Coded}
-use Rattle.search.specs.LayoutLaws.{join_lt}
+use Rattle.search.proofs.LayoutLaws.{join_lt}
 use Rattle.search.proofs.centre.Partial.with_block.Statement.{statement}
 use Rattle.search.proofs.centre.Partial.with_block.Tie as tie
 

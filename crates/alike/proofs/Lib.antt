@@ -1,0 +1,2 @@
+-- The laws of the crate alike.
+pub mod AlikeLaws

@@ -1,0 +1,3 @@
+-- The laws of the crate horn.
+pub mod HornLaws
+pub mod MachineLaws

@@ -1,0 +1,4 @@
+-- The laws of the crate legs.
+pub mod LegAnswers
+pub mod MachineLaws
+pub mod LegLaws

@@ -1,0 +1,5 @@
+-- The laws of the crate tree.
+pub mod TreeLaws
+pub mod BudgetLaws
+pub mod LegLaws
+pub mod Decides
