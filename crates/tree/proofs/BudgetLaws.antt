@@ -12,7 +12,7 @@ use borrow.Author.Tests.{leb-true, leb-false, le-leb, lt-leb}
 use Rattle.words.specs.Lists.{span}
 use Rattle.words.proofs.ListLaws.{apart}
 use Rattle.tree.specs.Explore.{Outcome, found, calls, plus, after, try, call, Tree, explore}
-use Rattle.tree.specs.Budget.{Answer, clear, spent, whole, answer}
+use Rattle.tree.specs.Budget.{Answer, clear, spent, whole, answer, settle}
 use Rattle.tree.specs.declared.Found.{Found}
 use Rattle.tree.specs.declared.Found.TheVariants.{Clear, None, Spent}
 use Rattle.tree.specs.Machine.{answer_in}

@@ -10,7 +10,7 @@ use Rattle.tree.specs.Budget.{Answer, clear, spent, whole, answer}
 use Rattle.tree.specs.Budget.{settle}
 use Rattle.tree.proofs.BudgetLaws.{rest, rest_end, rest_step, answer_whole, answer_spent, clear_found, none_none, spent_calls, count_of, answer_count, plus_plus}
 use Rattle.tree.proofs.TreeLaws.{Finds, calls_plus, after_least}
-use Rattle.tree.specs.Legs.{Progress, progress, turn, leg_over, leg}
+use Rattle.tree.specs.Legs.{Progress, progress, turn, leg_over, leg, cut}
 
 -- the leg from search i on, where c calls are counted before
 unfoldable pub leg_from : (ℕ → Outcome) → (A E c i : ℕ) → Progress

@@ -1,6 +1,6 @@
 -- The answer of a search within a budget of calls (paper 01, "The search in one ball").
 use Rattle.std.specs.Prelude.{cond, ℕ, leb}
-use Rattle.tree.specs.Explore.{Outcome, found, calls}
+use Rattle.tree.specs.Explore.{Outcome, found, calls, plus}
 
 -- The answer (its verdict, refusals apart): an assignment and the calls; the calls; or the budget that is spent.
 pub data Answer : Type 0 where

@@ -5,16 +5,15 @@ use Rattle.words.specs.Bits.{bit}
 use Rattle.planes.specs.Machine.{count_in}
 use Rattle.planes.proofs.LaneLaws.{bit-bit_xor, bit-bit_or}
 use Rattle.planes.proofs.PlaneLaws.{zero_moves}
-use Rattle.planes.proofs.Planes.zeros_after.Statement.{statement}
-use Rattle.planes.proofs.Planes.zeros_after.Tie as tie
+use Rattle.planes.proofs.Planes.zeros_after.Goals as goal
 
-zeros-requires : tie.Need-zeros-requires
-zeros-requires c κs = omega arith
+pub zeros-requires : goal.zeros-requires
+zeros-requires c = omega arith
 
-returns : tie.Need-returns
+pub returns : goal.returns
 unfolding count_in
 returns c =
-    let start = c.before.before.args in
+    let start = c.args in
     let p = start.self in
     record {
       each = λ j n l a h.
@@ -22,6 +21,3 @@ returns c =
           ∙ rw (bit-bit_or, bit-bit_xor)
           (zero_moves (bit p.p0 j) (bit p.p1 j) (bit p.p2 j) (bit p.p3 j) (bit start.up j) (bit start.down j) n a h);
     }
-
-pub zeros-after-spec : {M : Type 1} → statement M
-zeros-after-spec = tie.close (tie.spec zeros-requires returns)

@@ -7,19 +7,15 @@ use Rattle.words.specs.Bits.{bit}
 use Rattle.planes.specs.Machine.{count_in}
 use Rattle.planes.proofs.LaneLaws.{bit_not, bit-bit_and, bit-bit_or}
 use Rattle.planes.proofs.PlaneLaws.{few_number}
-use Rattle.planes.proofs.Planes.at_most_two.Statement.{statement}
-use Rattle.planes.proofs.Planes.at_most_two.Tie as tie
+use Rattle.planes.proofs.Planes.at_most_two.Goals as goal
 
-returns : tie.Need-returns
+pub returns : goal.returns
 unfolding count_in
 returns c j l =
-    let p = c.before.before.before.args.self in
+    let p = c.args.self in
     let f0 : p.p0 < 2 ^ 64 = search rules in
     let f1 : p.p1 < 2 ^ 64 = search rules in
     let f2 : p.p2 < 2 ^ 64 = search rules in
     let f3 : p.p3 < 2 ^ 64 = search rules in
     bit_not 64 _ j (or_lt 64 _ _ (or_lt 64 _ _ (and_lt 64 _ _ f0 f1) f2) f3) l
     ∙ simp (bit-bit_or, bit-bit_and) (few_number (bit p.p0 j) (bit p.p1 j) (bit p.p2 j) (bit p.p3 j))
-
-pub at-most-two-spec : {M : Type 1} → statement M
-at-most-two-spec = tie.close (tie.spec returns)

@@ -2,12 +2,8 @@
 use Rattle.planes.specs.Machine.{count_in}
 use Rattle.planes.proofs.LaneLaws.{bit-bit_xor, bit-bit_and}
 use Rattle.planes.proofs.PlaneLaws.{number_moves}
-use Rattle.planes.proofs.Planes.moved.Statement.{statement}
-use Rattle.planes.proofs.Planes.moved.Tie as tie
+use Rattle.planes.proofs.Planes.moved.Goals as goal
 
-returns : tie.Need-returns
+pub returns : goal.returns
 unfolding count_in
 returns c = record { each = λ j n l h. simp (bit-bit_xor, bit-bit_and) (number_moves _ _ _ _ _ _ n l h) }
-
-pub moved-spec : {M : Type 1} → statement M
-moved-spec = tie.close (tie.spec returns)

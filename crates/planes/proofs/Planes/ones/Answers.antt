@@ -8,19 +8,15 @@ use Rattle.words.specs.Bits.{bit}
 use Rattle.planes.specs.Machine.{count_in}
 use Rattle.planes.proofs.LaneLaws.{bit_not, bit-bit_and, bit-bit_or}
 use Rattle.planes.proofs.PlaneLaws.{one_number}
-use Rattle.planes.proofs.Planes.ones.Statement.{statement}
-use Rattle.planes.proofs.Planes.ones.Tie as tie
+use Rattle.planes.proofs.Planes.ones.Goals as goal
 
-returns : tie.Need-returns
+pub returns : goal.returns
 unfolding count_in
 returns c j l =
-    let p = c.before.before.before.args.self in
+    let p = c.args.self in
     let f1 : p.p1 < 2 ^ 64 = search rules in
     let f2 : p.p2 < 2 ^ 64 = search rules in
     let f3 : p.p3 < 2 ^ 64 = search rules in
     bit-bit_and p.p0 _ j
     ∙ ap (λ (b : Bool). bit p.p0 j && b) (bit_not 64 _ j (or_lt 64 _ _ (or_lt 64 _ _ f1 f2) f3) l)
     ∙ simp bit-bit_or (one_number (bit p.p0 j) (bit p.p1 j) (bit p.p2 j) (bit p.p3 j))
-
-pub ones-spec : {M : Type 1} → statement M
-ones-spec = tie.close (tie.spec returns)
