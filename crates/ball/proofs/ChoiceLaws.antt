@@ -11,7 +11,7 @@ use Rattle.words.specs.Lists.{In, some}
 use Rattle.words.proofs.ListLaws.{some_in, in_some, first_none, or_left, or_right, both_ways, refute}
 use Rattle.words.specs.Bits.{bit, width}
 use Rattle.words.specs.Machine.{Meets}
-use Rattle.formula.specs.Formula.{Literal, Clause, bit_of, met, names}
+use Rattle.formula.specs.Formula.{Literal, Clause, bit_of, names}
 use Rattle.formula.specs.Machine.{held, clause_at}
 use Rattle.formula.proofs.HeldLaws.{held_none, held_first}
 use Rattle.planes.specs.declared.Kind.TheVariants.{Zero, Few}

@@ -1,5 +1,5 @@
 -- The variables that clauses force to stay as they are: which they are at a centre, and how a flip adds to them.
-use Rattle.std.specs.Prelude.{◌≡◌, ◌⊎◌, Bool, ◌||◌, List, [], ◌∷◌, ℕ, ◌+◌, ◌-◌, ◌≤◌, ◌<◌, eqb, ltb}
+use Rattle.std.specs.Prelude.{◌≡◌, Bool, ◌||◌, List, [], ◌∷◌, ℕ, ◌+◌, ◌-◌, ◌≤◌, ◌<◌, eqb, ltb}
 use Rattle.std.proofs.Math.Path.{refl, ap}
 use Rattle.std.proofs.Common.{sym, ◌∙◌, subst, inl, inr, eq-or-lt_of_le, arith, eqb-true, ltb-true, ltb-false}
 use Rattle.std.proofs.Math.Logic.{⊎_elim}
@@ -11,7 +11,7 @@ use Rattle.words.specs.Bits.{bit, width}
 use Rattle.words.proofs.BitLaws.{bit_zero}
 use Rattle.words.proofs.CountLaws.{count_some}
 use Rattle.formula.specs.Formula.{Literal, Clause, bit_of, met, is_opposite, names, literal_of}
-use Rattle.formula.specs.Counts.{holds, opposite}
+use Rattle.formula.specs.Counts.{opposite}
 use Rattle.formula.specs.Machine.{Table, IsLiteral, held, clause_at}
 use Rattle.formula.proofs.TableLaws.{held_in}
 use Rattle.formula.proofs.HeldLaws.{held_some}

@@ -1,0 +1,26 @@
+-- The cycle of calls {attempt, call, literals}: a call, the literals that it tries and the call for one literal give what the definition
+-- gives, cut at the budget. The measure combines the flips left and the literals left: ten for each flip, for a call nine more, and for the
+-- loop over its at most eight literals one more for each, which the loop itself counts down; each literal tried makes a call with one flip less.
+use Rattle.std.proofs.Common.{◌≡◌, ◌+◌, ◌-◌, ◌*◌, length}
+use Rattle.words.specs.Machine.{set_of}
+use Rattle.formula.specs.Machine.{length_at}
+use Rattle.planes.specs.Machine.{plane_cells}
+use Rattle.ball.specs.Machine.{state_in, Turn}
+use Rattle.ball.proofs.ball.+attempt_call_literals.Given as goal
+
+abbrev pub decreases-attempt : goal.decreases-attempt
+decreases-attempt l = l.left * 10
+
+abbrev pub decreases-call : goal.decreases-call
+decreases-call l = l.left * 10 + 9
+
+abbrev pub decreases-literals : goal.decreases-literals
+decreases-literals l = l.left * 10 + length_at l.cells.now l.clause
+
+abbrev pub invariant-literals-loop-j : goal.invariant-literals-loop-j
+invariant-literals-loop-j l =
+    Turn l.k l.cells l.occ l.planes (state_in l.at) (set_of l.at.forced) l.clause l.left l.calls l.budget l.made l.j
+    × (length l.next ≡ plane_cells)
+
+abbrev pub decreases-literals-loop-j : goal.decreases-literals-loop-j
+decreases-literals-loop-j l = l.size - l.j
