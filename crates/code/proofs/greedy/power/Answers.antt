@@ -5,17 +5,9 @@ use native.Mathlib.Nat.{one-mul}
 use native.Mathlib.Omega.{arith}
 use lib.Dec.{lit<}
 use lib.Pow.{shl_exact, pow_mono}
-use borrow.Author.Rules.{rules}
-use Rattle.code.proofs.greedy.power.Statement.{statement}
-use Rattle.code.proofs.greedy.power.Tie as tie
+use Rattle.code.proofs.greedy.power.Goals as goal
 
-shl-result : tie.Need-overflow-shl-result
-shl-result c = search rules
-
-returns : tie.Need-returns
+pub returns : goal.returns
 returns c =
     let e : 1 * 2 ^ c.args.t % 2 ^ 64 ≡ 1 * 2 ^ c.args.t = shl_exact 1 c.args.t 64 (lit< tt) (omega arith) in
     (e ∙ one-mul _, rw (e, one-mul) (pow_mono c.requires))
-
-pub power-spec : {M : Type 1} → statement M
-power-spec = tie.close (tie.spec shl-result returns)
