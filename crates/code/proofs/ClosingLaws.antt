@@ -12,7 +12,8 @@ use Rattle.code.specs.Code.{words_of, near, ball, chosen, without, code, uncover
 use Rattle.code.specs.Volume.{volume, floor}
 use Rattle.code.specs.Closing.{Rate, guaranteed, most_words, sharp_words, lemma_words}
 use Rattle.code.proofs.KeepLaws.{words_within, length_in, keep_split}
-use Rattle.code.proofs.ChosenLaws.{chosen_lt, step_rate}
+use Rattle.code.proofs.ChosenLaws.{chosen_lt}
+use Rattle.code.proofs.RateLaws.{step_rate}
 use Rattle.code.proofs.CodeLaws.{outside_nil, code_covers, greedy_steps, code_closes, code_closed}
 use Rattle.code.proofs.VolumeLaws.{ball_size, volume_pos, volume_most}
 use Rattle.code.proofs.FloorLaws.{floor_enough, floor_pos, floor_less}

@@ -2,6 +2,7 @@
 pub mod KeepLaws
 pub mod VolumeLaws
 pub mod ChosenLaws
+pub mod RateLaws
 pub mod CodeLaws
 pub mod FloorLaws
 pub mod ClosingLaws
