@@ -11,7 +11,8 @@ ghost use Rattle.formula.specs.Machine.{Table};
 ghost use Rattle.tree.specs.Machine.{answer_in};
 ghost use Rattle.tree.specs.Budget.{answer};
 ghost use Rattle.tree.specs.Legs.{cut};
-ghost use Rattle.search.specs.Run.{run, leg_of};
+ghost use Rattle.code.specs.Code.{code};
+ghost use Rattle.search.specs.Run.{plan, blocks, run, leg_of};
 ghost use Rattle.search.specs.Machine.{blocks_in, extent, Laying, search_in, progress_in};
 
 use ball::counts;
@@ -68,8 +69,8 @@ fn in_one(found: Found, budget: u32) -> Found
 }
 
 // The answer within the budget, of the k clauses in the table over n variables, by blocks that are
-// laid out.
-pub fn run(
+// laid out,
+pub fn run_laid(
     cells: &[u32; formula::CELLS],
     n: u32,
     k: usize,
@@ -84,4 +85,23 @@ pub fn run(
     let progress = leg(cells, n, k, layout, whole, last, 0, budget);
     let found = progress.found;
     in_one(found, budget)
+}
+
+// and by a plan: block length and radius.
+pub fn run(
+    cells: &[u32; formula::CELLS],
+    n: u32,
+    k: usize,
+    size: u32,
+    radius: u32,
+    budget: u32,
+) -> Found
+    requires n_le_width { (n ≤ width) × Table n k cells.now }
+    requires le_size { (1 ≤ size) × (size ≤ 12) × (radius ≤ size) }
+    ensures { answer_in result ≡ answer budget (run (search_in k cells.now (blocks code (plan size radius) n))) }
+{
+    let mut whole = layout::cells();
+    let mut last = layout::cells();
+    let layout = lay_out(n, size, radius, &mut whole, &mut last);
+    run_laid(cells, n, k, layout, &whole, &last, budget)
 }
