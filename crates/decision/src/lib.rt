@@ -144,7 +144,7 @@ pub fn decide_laid(
             verdict: settled(found),
         };
     }
-    let found = search::run(cells, n, k, layout, whole, last, budget);
+    let found = search::run_laid(cells, n, k, layout, whole, last, budget);
     Decision {
         batch,
         method: Method::Balls,
@@ -165,7 +165,7 @@ pub fn decide_table(
 ) -> Decision
     requires n_le_width { (n ≤ width) × Table n k cells.now }
     requires le_size { (1 ≤ size) × (size ≤ 12) × (radius ≤ size) }
-    ensures { decision_in result ≡ judged (plan size radius) budget (formula_in batch n k cells.now) }
+    ensures { decision_in result ≡ judged (plan size radius) budget (record { batch = batch; n = n; clauses = held k cells.now }) }
 {
     let mut whole = search::code_cells();
     let mut last = search::code_cells();
