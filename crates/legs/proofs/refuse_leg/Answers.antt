@@ -1,0 +1,11 @@
+-- `refuse_leg` meets its contract: the reply of the refusal, and the record that came.
+use mathlib.Core.Path.{ap, ◌∙◌}
+use Rattle.legs.specs.declared.LegReply.{LegReply}
+use Rattle.legs.specs.Legs.{about, refused_leg}
+use Rattle.legs.proofs.refuse_leg.Goals as goal
+
+pub returns : goal.returns
+unfolding refused_leg
+returns c =
+    let reply = c.about.ensures ∙ ap (about _) c.declined.ensures in
+    ap (λ (x : LegReply). record { reply = x; checkpoint = c.args.checkpoint }) reply
