@@ -1,5 +1,5 @@
 -- The laws that the machine's calls cite, one for each way through a call.
-use Rattle.std.specs.Prelude.{◌≡◌, refl, not, List, [], ◌∷◌, set}
+use Rattle.std.specs.Prelude.{◌≡◌, refl, not, List, [], ◌∷◌}
 use Rattle.std.proofs.Math.Path.{sym, ap}
 use Rattle.std.proofs.Common.{ap₂, ◌∙◌, ⊎_elim, eq-or-lt_of_le, add-one, pow_pos}
 use Rattle.std.proofs.Math.Bool.{Bool, true, false}

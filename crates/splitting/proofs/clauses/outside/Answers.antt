@@ -3,13 +3,9 @@ use borrow.Author.Rules.{rules}
 use Prim.Native.Nat.{◌^◌, ◌<◌}
 use Rattle.words.proofs.BitLaws.{bit_without}
 use Rattle.planes.specs.Machine.{lanes}
-use Rattle.splitting.proofs.clauses.outside.Statement.{statement}
-use Rattle.splitting.proofs.clauses.outside.Tie as tie
+use Rattle.splitting.proofs.clauses.outside.Goals as goal
 
-returns : tie.Need-returns
+pub returns : goal.returns
 returns c j l =
     let fits : c.args.other < 2 ^ lanes = search rules in
     bit_without lanes c.args.word c.args.other j fits l
-
-pub outside-spec : {M : Type 1} → statement M
-outside-spec = tie.close (tie.spec returns)
