@@ -7,8 +7,8 @@ ghost use Rattle.clearing.specs.Program.{program_reply};
 
 use decision::Reply;
 use formula::word_at;
-use libc::STDIN_FILENO;
-use line::print_line;
+use line::{print_line, read_input};
+use std::io;
 
 // Input that is too short for a plan and a budget is a bad plan.
 fn answer(input: &[u8]) -> Reply
@@ -23,10 +23,10 @@ fn answer(input: &[u8]) -> Reply
     engine::run(size, radius, budget, &input[12..])
 }
 
-fn main() {
+fn main(rt: HostRuntime) -> io::Result<()> {
     // One word more than the plan, the budget and the longest sheet: longer input is seen as
     // overlong.
     let mut input = [0u8; 36892];
-    let n = io::read_full(STDIN_FILENO, &mut input);
-    print_line(answer(&input[..n]));
+    let n = read_input(&rt, &mut input)?;
+    print_line(&rt, answer(&input[..n]))
 }

@@ -7,21 +7,12 @@ ghost use Rattle.std.specs.Prelude.{◌≡◌, length};
 
 use code::Answer;
 use engine::NumberReply;
-use libc::STDOUT_FILENO;
+use std::io;
 
 // A table's cells before a call, and their number.
 const BLANK: u16 = 43981;
 
 const CELLS: usize = 4100;
-
-fn text(words: &[u8]) {
-    io::write_all(STDOUT_FILENO, words);
-}
-
-fn number(n: u64) {
-    text(b" ");
-    io::print_decimal(STDOUT_FILENO, n);
-}
 
 fn blank() -> [u16; 4100]
     ensures { 4100 ≡ length result }
@@ -53,125 +44,117 @@ fn checksum(cells: &[u16]) -> u64 {
     sum
 }
 
-fn show_written(count: u32, cells: &[u16]) {
+fn show_written(rt: &impl Print, count: u32, cells: &[u16]) -> io::Result<()> {
     let n = count as usize;
     if n <= cells.len() {
-        text(b" words");
-        number(count as u64);
-        text(b" sum");
-        number(checksum(&cells[0..n]));
-        text(b" blank");
-        number(blanks(&cells[n..]));
+        let sum = checksum(&cells[0..n]);
+        let blank = blanks(&cells[n..]);
+        print!(rt; " words {count} sum {sum} blank {blank}")?;
     }
+    Ok(())
 }
 
-fn show_refused(refusal: u32, place: u32) {
-    text(b" refused");
-    number(refusal as u64);
-    text(b" place");
-    number(place as u64);
+fn show_refused(rt: &impl Print, refusal: u32, place: u32) -> io::Result<()> {
+    print!(rt; " refused {refusal} place {place}")
 }
 
-fn show_call(t: u32, s: u32, cells: &mut [u16]) {
-    number(t as u64);
-    number(s as u64);
+fn show_call(rt: &impl Print, t: u32, s: u32, cells: &mut [u16]) -> io::Result<()> {
+    print!(rt; " {t} {s}")?;
     let answer = code::code(t, s, cells);
     match answer {
-        Answer::Number(count) => show_written(count, cells),
+        Answer::Number(count) => show_written(rt, count, cells),
         Answer::Refused(refusal) => {
-            show_refused(refusal.number, refusal.place);
-            text(b" blank");
-            number(blanks(cells));
+            show_refused(rt, refusal.number, refusal.place)?;
+            let blank = blanks(cells);
+            print!(rt; " blank {blank}")
         }
     }
 }
 
 // A call of `code` with a table of n blank cells.
-fn show_code(t: u32, s: u32, n: usize) {
+fn show_code(rt: &impl Print, t: u32, s: u32, n: usize) -> io::Result<()> {
     let mut cells = blank();
-    text(b"code");
+    print!(rt; "code")?;
     if n <= CELLS {
-        show_call(t, s, &mut cells[0..n]);
+        show_call(rt, t, s, &mut cells[0..n])?;
     }
+    Ok(())
 }
 
-fn show_number(answer: Answer) {
+fn show_number(rt: &impl Print, answer: Answer) -> io::Result<()> {
     match answer {
-        Answer::Number(n) => number(n as u64),
-        Answer::Refused(refusal) => show_refused(refusal.number, refusal.place),
+        Answer::Number(n) => print!(rt; " {n}"),
+        Answer::Refused(refusal) => show_refused(rt, refusal.number, refusal.place),
     }
 }
 
 // All three operations.
-fn show(t: u32, s: u32) {
-    show_code(t, s, CELLS);
-    text(b" volume");
-    show_number(code::volume(t, s));
-    text(b" floor");
-    show_number(code::floor(t, s));
-    text(b"\n");
+fn show(rt: &impl Print, t: u32, s: u32) -> io::Result<()> {
+    show_code(rt, t, s, CELLS)?;
+    print!(rt; " volume")?;
+    show_number(rt, code::volume(t, s))?;
+    print!(rt; " floor")?;
+    show_number(rt, code::floor(t, s))?;
+    println!(rt)
 }
 
-fn radii(t: u32) {
+fn radii(rt: &impl Print, t: u32) -> io::Result<()> {
     let mut s = 0;
     while s < 14 {
-        show(t, s);
+        show(rt, t, s)?;
         s += 1;
     }
+    Ok(())
 }
 
-fn lengths() {
+fn lengths(rt: &impl Print) -> io::Result<()> {
     let mut t = 0;
     while t < 14 {
-        radii(t);
+        radii(rt, t)?;
         t += 1;
     }
+    Ok(())
 }
 
-fn show_table(t: u32, s: u32, n: usize) {
-    show_code(t, s, n);
-    text(b"\n");
+fn show_table(rt: &impl Print, t: u32, s: u32, n: usize) -> io::Result<()> {
+    show_code(rt, t, s, n)?;
+    println!(rt)
 }
 
 // Tables that are too short, and just long enough; a bad plan comes first.
-fn tables() {
-    show_table(1, 0, 0);
-    show_table(1, 1, 1);
-    show_table(1, 1, 2);
-    show_table(3, 1, 7);
-    show_table(3, 1, 8);
-    show_table(3, 4, 7);
-    show_table(12, 12, 4095);
-    show_table(12, 12, 4096);
+fn tables(rt: &impl Print) -> io::Result<()> {
+    show_table(rt, 1, 0, 0)?;
+    show_table(rt, 1, 1, 1)?;
+    show_table(rt, 1, 1, 2)?;
+    show_table(rt, 3, 1, 7)?;
+    show_table(rt, 3, 1, 8)?;
+    show_table(rt, 3, 4, 7)?;
+    show_table(rt, 12, 12, 4095)?;
+    show_table(rt, 12, 12, 4096)
 }
 
-fn show_reply(reply: NumberReply) {
-    text(b"reply");
-    number(reply.result as u64);
-    number(reply.number as u64);
-    number(reply.place as u64);
-    text(b"\n");
+fn show_reply(rt: &impl Print, reply: NumberReply) -> io::Result<()> {
+    println!(rt; "reply {} {} {}", reply.result, reply.number, reply.place)
 }
 
 // The same operations as a C host calls them.
-fn replies() {
+fn replies(rt: &impl Print) -> io::Result<()> {
     let mut cells = blank();
-    show_reply(engine::covering_code(4, 1, &mut cells));
-    show_reply(engine::covering_code(4, 5, &mut cells));
-    show_reply(engine::ball_volume(12, 6));
-    show_reply(engine::ball_volume(13, 6));
-    show_reply(engine::covering_floor(4, 1));
-    show_reply(engine::covering_floor(4, 13));
-    text(b"sum");
-    number(checksum(&cells));
-    text(b"\n");
+    show_reply(rt, engine::covering_code(4, 1, &mut cells))?;
+    show_reply(rt, engine::covering_code(4, 5, &mut cells))?;
+    show_reply(rt, engine::ball_volume(12, 6))?;
+    show_reply(rt, engine::ball_volume(13, 6))?;
+    show_reply(rt, engine::covering_floor(4, 1))?;
+    show_reply(rt, engine::covering_floor(4, 13))?;
+    let sum = checksum(&cells);
+    println!(rt; "sum {sum}")
 }
 
-fn main() {
-    lengths();
-    show(4294967295, 0);
-    show(12, 4294967295);
-    show(4294967295, 4294967295);
-    tables();
-    replies();
+fn main(rt: HostRuntime) -> io::Result<()> {
+    lengths(&rt)?;
+    show(&rt, 4294967295, 0)?;
+    show(&rt, 12, 4294967295)?;
+    show(&rt, 4294967295, 4294967295)?;
+    tables(&rt)?;
+    replies(&rt)
 }

@@ -1,45 +1,64 @@
-// The line that the programs print for a reply (paper 01, "Settled examples").
+// What the programs read, and the line that they print for a reply (paper 01, "Settled examples").
 #![tactic(auto)]
 
+ghost use Rattle.std.specs.Prelude.{◌≤◌, length, IfOk};
+
 use decision::Reply;
-use libc::STDOUT_FILENO;
+use std::io;
+use std::io::Read;
 
-pub fn print_number(name: &[u8], n: u32) {
-    io::write_all(STDOUT_FILENO, name);
-    io::print_decimal(STDOUT_FILENO, n as u64);
+// Puts standard input at the front of `input`, and returns how many bytes that are: as many as it
+// holds where there are more.
+pub fn read_input(rt: &impl Input, input: &mut [u8]) -> io::Result<usize>
+    ensures { IfOk result (λ n. n ≤ length input.new) }
+{
+    let mut reader = rt.reader();
+    let mut done = 0;
+    while done < input.len() {
+        let n = reader.read(&mut input[done..])?;
+        if n == 0 {
+            break;
+        }
+        done += n;
+    }
+    Ok(done)
 }
 
-fn print_verdict(verdict: u32) {
+pub fn print_number(rt: &impl Print, name: &str, n: u32) -> io::Result<()> {
+    print!(rt; "{name}{n}")
+}
+
+fn print_verdict(rt: &impl Print, verdict: u32) -> io::Result<()> {
     if verdict == decision::CLEAR {
-        io::write_all(STDOUT_FILENO, b" clear");
+        print!(rt; " clear")
     } else if verdict == decision::NONE {
-        io::write_all(STDOUT_FILENO, b" none");
+        print!(rt; " none")
     } else {
-        io::write_all(STDOUT_FILENO, b" spent");
+        print!(rt; " spent")
     }
 }
 
-fn print_method(method: u32) {
+fn print_method(rt: &impl Print, method: u32) -> io::Result<()> {
     if method == decision::HORN {
-        io::write_all(STDOUT_FILENO, b" horn");
+        print!(rt; " horn")
     } else {
-        io::write_all(STDOUT_FILENO, b" ball");
+        print!(rt; " ball")
     }
 }
 
-pub fn print_line(reply: Reply) {
+pub fn print_line(rt: &impl Print, reply: Reply) -> io::Result<()> {
     if reply.verdict == decision::REFUSED {
-        print_number(b"refused ", reply.number);
-        print_number(b" place ", reply.place);
+        print_number(rt, "refused ", reply.number)?;
+        print_number(rt, " place ", reply.place)?;
     } else {
-        print_number(b"batch ", reply.batch);
-        print_method(reply.road);
-        print_verdict(reply.verdict);
-        print_number(b" calls ", reply.calls);
-        print_number(b" marks ", reply.marks0);
-        print_number(b" ", reply.marks1);
-        print_number(b" ", reply.marks2);
-        print_number(b" ", reply.marks3);
+        print_number(rt, "batch ", reply.batch)?;
+        print_method(rt, reply.road)?;
+        print_verdict(rt, reply.verdict)?;
+        print_number(rt, " calls ", reply.calls)?;
+        print_number(rt, " marks ", reply.marks0)?;
+        print_number(rt, " ", reply.marks1)?;
+        print_number(rt, " ", reply.marks2)?;
+        print_number(rt, " ", reply.marks3)?;
     }
-    io::write_all(STDOUT_FILENO, b"\n");
+    println!(rt)
 }

@@ -1,5 +1,5 @@
 -- What the program answers to any input, and which clauses it keeps (02, paper 13).
-use Rattle.minimal_core.specs.Prelude.{ℕ, cond, List, length, drop, nat_lt, slice_index}
+use Rattle.std.specs.Prelude.{ℕ, cond, List, length, drop, nat_lt, slice_index}
 use Rattle.formula.specs.Sheet.{words}
 use Rattle.search.specs.Run.{plan}
 use Rattle.decision.specs.Answers.{refusal, BAD_PLAN}

@@ -3,15 +3,15 @@
 // a second.
 #![tactic(auto)]
 
-ghost use Rattle.minimal_core.specs.Prelude.{◌≡◌, length};
+ghost use Rattle.std.specs.Prelude.{◌≡◌, length};
 ghost use Rattle.decision.specs.Answers.{reply_of};
 ghost use Rattle.deletion.specs.Core.{list_after};
 ghost use Rattle.minimal_core.specs.Program.{program_core};
 
 use decision::Reply;
 use formula::{CLAUSES, word_at};
-use libc::{STDIN_FILENO, STDOUT_FILENO};
-use line::{print_line, print_number};
+use line::{print_line, print_number, read_input};
+use std::io;
 use words::wide_u16;
 
 // Input that is too short for a plan and a budget is a bad plan.
@@ -29,27 +29,28 @@ fn answer(input: &[u8], list: &mut [u16]) -> Reply
 }
 
 // The first numbers of the list, as many as it has at the most.
-fn print_numbers(list: &[u16], count: usize) {
+fn print_numbers(rt: &impl Print, list: &[u16], count: usize) -> io::Result<()> {
     let mut i = 0;
     while i < count && i < list.len() {
         if 0 < i {
-            io::write_all(STDOUT_FILENO, b" ");
+            print!(rt; " ")?;
         }
-        print_number(b"", wide_u16(list[i]));
+        print_number(rt, "", wide_u16(list[i]))?;
         i += 1;
     }
-    io::write_all(STDOUT_FILENO, b"\n");
+    println!(rt)
 }
 
-fn main() {
+fn main(rt: HostRuntime) -> io::Result<()> {
     // One word more than the plan, the budget and the longest sheet: longer input is seen as
     // overlong.
     let mut input = [0u8; 36892];
-    let n = io::read_full(STDIN_FILENO, &mut input);
+    let n = read_input(&rt, &mut input)?;
     let mut list = [0u16; CLAUSES];
     let reply = answer(&input[..n], &mut list);
-    print_line(reply);
+    print_line(&rt, reply)?;
     if reply.verdict == decision::NONE {
-        print_numbers(&list, reply.calls as usize);
+        print_numbers(&rt, &list, reply.calls as usize)?;
     }
+    Ok(())
 }

@@ -6,6 +6,7 @@ use crate::sheets::Random;
 use crate::{Case, Counts, LARGEST_BUDGET, same};
 use decision::Reply;
 use legs::LegReply;
+use std::io;
 use words::wide_u8;
 
 // The end of the clause in the middle of the sheet, which begins after its header.
@@ -41,14 +42,21 @@ fn ball_calls(reply: LegReply) -> u32 {
     }
 }
 
-pub fn try_growth(sheet: &[u8], case: Case, random: Random, run: Reply, counts: Counts) -> Counts {
+pub fn try_growth(
+    rt: &impl Print,
+    sheet: &[u8],
+    case: Case,
+    random: Random,
+    run: Reply,
+    counts: Counts,
+) -> io::Result<Counts> {
     let old = first_half(sheet);
     let budget = random.next().below(run.calls / 2 + 1);
     let first = leg(old, case, budget, start(case));
     let before = first.reply;
     let checkpoint = first.checkpoint;
     if !goes_on(before) {
-        return counts;
+        return Ok(counts);
     }
     let last = legs::leg_longer_by_value(
         case.size,
@@ -63,7 +71,7 @@ pub fn try_growth(sheet: &[u8], case: Case, random: Random, run: Reply, counts: 
     let mut told = all;
     told.calls = run.calls;
     if same(told, run) {
-        return counts.with_growth(checkpoint.next, all.calls == run.calls);
+        return Ok(counts.with_growth(checkpoint.next, all.calls == run.calls));
     }
-    report_legs(case, 2, all, counts)
+    report_legs(rt, case, 2, all, counts)
 }

@@ -18,9 +18,9 @@ ghost use Rattle.trials.specs.Bounds.{Bounded, Roomy};
 
 use brute::{NO_MODEL, first_model, in_all_models, is_horn, meets};
 use decision::Reply;
-use libc::STDOUT_FILENO;
 use parked::try_legs;
 use sheets::{Random, Shape, draw_shape, draw_sheet};
+use std::io;
 
 const SHEETS: u32 = 60000;
 // Enough for most sheets; the others are spent.
@@ -178,56 +178,50 @@ impl Counts {
     }
 }
 
-fn print_number(name: &[u8], n: u64) {
-    io::write_all(STDOUT_FILENO, name);
-    io::print_decimal(STDOUT_FILENO, n);
+fn print_counts(rt: &impl Print, counts: Counts) -> io::Result<()> {
+    println!(rt; "horn clear {}", counts.horn_clear)?;
+    println!(rt; "horn none {}", counts.horn_none)?;
+    println!(rt; "ball clear {}", counts.clear)?;
+    println!(rt; "ball none {}", counts.none)?;
+    println!(rt; "ball spent {}", counts.spent)?;
+    println!(rt; "split clear {}", counts.split_clear)?;
+    println!(rt; "split none {}", counts.split_none)?;
+    println!(rt; "budgets {}", counts.budgets)?;
+    println!(rt; "disagreements {}", counts.disagreements)?;
+    print!(rt; "legs: horn {}", counts.horn_legs)?;
+    print!(rt; " searches {}", counts.searches)?;
+    print!(rt; " legs {}", counts.legs)?;
+    println!(rt; " disagreements {}", counts.leg_disagreements)?;
+    print!(rt; "grown {}", counts.growths)?;
+    print!(rt; " from a later ball {}", counts.later)?;
+    println!(rt; " with other calls {}", counts.other_sums)
 }
 
-fn print_counts(counts: Counts) {
-    print_number(b"horn clear ", counts.horn_clear);
-    print_number(b"\nhorn none ", counts.horn_none);
-    print_number(b"\nball clear ", counts.clear);
-    print_number(b"\nball none ", counts.none);
-    print_number(b"\nball spent ", counts.spent);
-    print_number(b"\nsplit clear ", counts.split_clear);
-    print_number(b"\nsplit none ", counts.split_none);
-    print_number(b"\nbudgets ", counts.budgets);
-    print_number(b"\ndisagreements ", counts.disagreements);
-    print_number(b"\nlegs: horn ", counts.horn_legs);
-    print_number(b" searches ", counts.searches);
-    print_number(b" legs ", counts.legs);
-    print_number(b" disagreements ", counts.leg_disagreements);
-    print_number(b"\ngrown ", counts.growths);
-    print_number(b" from a later ball ", counts.later);
-    print_number(b" with other calls ", counts.other_sums);
-    io::write_all(STDOUT_FILENO, b"\n");
-}
-
-fn print_pair(name: &[u8], a: u32, other: &[u8], b: u32) {
-    print_number(name, a as u64);
-    print_number(other, b as u64);
-}
-
-fn print_reply(reply: Reply) {
-    print_pair(b" verdict ", reply.verdict, b" batch ", reply.batch);
-    print_number(b" road ", reply.road as u64);
-    print_pair(b" marks ", reply.marks0, b" ", reply.marks1);
-    print_pair(b" ", reply.marks2, b" ", reply.marks3);
-    print_number(b" calls ", reply.calls as u64);
-    print_pair(b" number ", reply.number, b" place ", reply.place);
-    io::write_all(STDOUT_FILENO, b"\n");
+fn print_reply(rt: &impl Print, reply: Reply) -> io::Result<()> {
+    print!(rt; " verdict {} batch {}", reply.verdict, reply.batch)?;
+    print!(rt; " road {}", reply.road)?;
+    print!(rt; " marks {} {}", reply.marks0, reply.marks1)?;
+    print!(rt; " {} {}", reply.marks2, reply.marks3)?;
+    print!(rt; " calls {}", reply.calls)?;
+    println!(rt; " number {} place {}", reply.number, reply.place)
 }
 
 // A run that disagrees.
-fn report(case: Case, budget: u32, reply: Reply, counts: Counts) -> Counts {
-    print_pair(b"sheet ", case.number, b" budget ", budget);
+fn report(
+    rt: &impl Print,
+    case: Case,
+    budget: u32,
+    reply: Reply,
+    counts: Counts,
+) -> io::Result<Counts> {
+    print!(rt; "sheet {} budget {budget}", case.number)?;
     if case.split {
-        io::write_all(STDOUT_FILENO, b" split");
+        print!(rt; " split")?;
     } else {
-        print_pair(b" plan ", case.size, b" ", case.radius);
+        print!(rt; " plan {} {}", case.size, case.radius)?;
     }
-    print_reply(reply);
-    counts.with_disagreement()
+    print_reply(rt, reply)?;
+    Ok(counts.with_disagreement())
 }
 
 fn same(a: Reply, b: Reply) -> bool {
@@ -334,59 +328,86 @@ fn asked(sheet: &[u8], case: Case, budget: u32) -> Reply {
 }
 
 // The sheet once more, with a budget whose answer is known.
-fn run_again(sheet: &[u8], case: Case, budget: u32, answer: Reply, counts: Counts) -> Counts {
+fn run_again(
+    rt: &impl Print,
+    sheet: &[u8],
+    case: Case,
+    budget: u32,
+    answer: Reply,
+    counts: Counts,
+) -> io::Result<Counts> {
     let reply = asked(sheet, case, budget);
     if same(reply, answer) {
-        return counts.with_budget();
+        return Ok(counts.with_budget());
     }
-    report(case, budget, reply, counts)
+    report(rt, case, budget, reply, counts)
 }
 
 // Budgets one below the calls needed, at them, and above. The calls are at least 1, as `agrees` saw.
-fn run_around(sheet: &[u8], case: Case, reply: Reply, counts: Counts) -> Counts {
+fn run_around(
+    rt: &impl Print,
+    sheet: &[u8],
+    case: Case,
+    reply: Reply,
+    counts: Counts,
+) -> io::Result<Counts> {
     let calls = reply.calls;
     let less = std::num::wrapping_sub_u32(calls, 1);
     let spent = counted(decision::SPENT, case, 0, less);
-    let below = run_again(sheet, case, less, spent, counts);
-    let at = run_again(sheet, case, calls, reply, below);
-    run_again(sheet, case, LARGEST_BUDGET, reply, at)
+    let below = run_again(rt, sheet, case, less, spent, counts)?;
+    let at = run_again(rt, sheet, case, calls, reply, below)?;
+    run_again(rt, sheet, case, LARGEST_BUDGET, reply, at)
 }
 
 // All runs of a case.
-fn run_case(sheet: &[u8], table: &[u32], case: Case, counts: Counts) -> Counts
+fn run_case(
+    rt: &impl Print,
+    sheet: &[u8],
+    table: &[u32],
+    case: Case,
+    counts: Counts,
+) -> io::Result<Counts>
     requires { (case.n ≤ 12) × (2 * case.clauses ≤ length table.now) }
 {
     let reply = asked(sheet, case, BUDGET);
     if !agrees(case, reply, table) {
-        return report(case, BUDGET, reply, counts);
+        return report(rt, case, BUDGET, reply, counts);
     }
     let seen = counts.with_verdict(case, reply.verdict);
     if reply.verdict == decision::SPENT {
-        return seen;
+        return Ok(seen);
     }
-    run_around(sheet, case, reply, seen)
+    run_around(rt, sheet, case, reply, seen)
 }
 
 // The sheet of a case with its plan, in one run and in legs, and then by splitting.
-fn try_case(sheet: &[u8], table: &[u32], mut case: Case, random: Random, counts: Counts) -> Counts
+fn try_case(
+    rt: &impl Print,
+    sheet: &[u8],
+    table: &[u32],
+    mut case: Case,
+    random: Random,
+    counts: Counts,
+) -> io::Result<Counts>
     requires { (case.n ≤ 12) × (2 * case.clauses ≤ length table.now) }
 {
-    let in_one = run_case(sheet, table, case, counts);
-    let in_legs = try_legs(sheet, case, random, in_one);
+    let in_one = run_case(rt, sheet, table, case, counts)?;
+    let in_legs = try_legs(rt, sheet, case, random, in_one)?;
     case.split = true;
-    run_case(sheet, table, case, in_legs)
+    run_case(rt, sheet, table, case, in_legs)
 }
 
 // A sheet that ends at a byte, with the plan whose turn it is. The budgets of its legs are drawn
 // from where its clauses were, so that they change no sheet.
 fn try_drawn(
+    rt: &impl Print,
     sheet: &[u8],
     end: usize,
     table: &[u32],
     shape: Shape,
     number: u32,
     counts: Counts,
-) -> Counts
+) -> io::Result<Counts>
     requires bounded { Bounded shape }
     requires roomy { Roomy sheet.now table.now }
     requires end_bound { end ≤ 36876 }
@@ -407,11 +428,17 @@ fn try_drawn(
         horn: is_horn(table, clauses),
         least: in_all_models(n, table, clauses),
     };
-    try_case(&sheet[0..end], table, case, random, counts)
+    try_case(rt, &sheet[0..end], table, case, random, counts)
 }
 
 // The next sheet.
-fn try_sheet(sheet: &mut [u8], table: &mut [u32], number: u32, trial: Trial) -> Trial
+fn try_sheet(
+    rt: &impl Print,
+    sheet: &mut [u8],
+    table: &mut [u32],
+    number: u32,
+    trial: Trial,
+) -> io::Result<Trial>
     requires { Roomy sheet.old table.old }
 {
     let random = trial.random;
@@ -419,14 +446,19 @@ fn try_sheet(sheet: &mut [u8], table: &mut [u32], number: u32, trial: Trial) -> 
     let shape = draw_shape(random, number);
     let draft = draw_sheet(sheet, table, shape);
     let next = draft.random;
-    Trial {
+    Ok(Trial {
         random: next,
-        counts: try_drawn(sheet, draft.at, table, shape, number, counts),
-    }
+        counts: try_drawn(rt, sheet, draft.at, table, shape, number, counts)?,
+    })
 }
 
 // So many sheets, one after the other in the same arrays.
-fn try_sheets(sheet: &mut [u8], table: &mut [u32], sheets: u32) -> Counts
+fn try_sheets(
+    rt: &impl Print,
+    sheet: &mut [u8],
+    table: &mut [u32],
+    sheets: u32,
+) -> io::Result<Counts>
     requires { Roomy sheet.old table.old }
 {
     let mut trial = Trial {
@@ -437,14 +469,15 @@ fn try_sheets(sheet: &mut [u8], table: &mut [u32], sheets: u32) -> Counts
     };
     let mut number = 0;
     while number < sheets {
-        trial = try_sheet(sheet, table, number, trial);
+        trial = try_sheet(rt, sheet, table, number, trial)?;
         number += 1;
     }
-    trial.counts
+    Ok(trial.counts)
 }
 
-fn main() {
+fn main(rt: HostRuntime) -> io::Result<()> {
     let mut sheet = [0u8; 36876];
     let mut table = [0u32; 2048];
-    print_counts(try_sheets(&mut sheet, &mut table, SHEETS));
+    let counts = try_sheets(&rt, &mut sheet, &mut table, SHEETS)?;
+    print_counts(&rt, counts)
 }

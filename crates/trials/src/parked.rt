@@ -5,11 +5,10 @@ ghost use Rattle.std.specs.Prelude.{◌<◌, ◌≤◌};
 
 use crate::growth::try_growth;
 use crate::sheets::Random;
-use crate::{
-    Case, Counts, LARGEST_BUDGET, counted, more, print_number, print_pair, print_reply, same,
-};
+use crate::{Case, Counts, LARGEST_BUDGET, counted, more, print_reply, same};
 use decision::Reply;
 use legs::{Checkpoint, LegEnd, LegReply};
+use std::io;
 
 // Half of all: a leg takes as long as a run, for most of both goes into the covering code.
 const SHEETS_IN_LEGS: u32 = 30000;
@@ -140,28 +139,46 @@ fn ended(sheet: &[u8], case: Case, checkpoint: Checkpoint) -> bool {
 }
 
 // Legs that disagree: how many they were, and what they came to.
-pub fn report_legs(case: Case, legs: u64, reply: Reply, counts: Counts) -> Counts {
-    print_number(b"sheet ", case.number as u64);
-    print_number(b" legs ", legs);
-    print_pair(b" plan ", case.size, b" ", case.radius);
-    print_reply(reply);
-    counts.with_leg_disagreement()
+pub fn report_legs(
+    rt: &impl Print,
+    case: Case,
+    legs: u64,
+    reply: Reply,
+    counts: Counts,
+) -> io::Result<Counts> {
+    print!(rt; "sheet {} legs {legs}", case.number)?;
+    print!(rt; " plan {} {}", case.size, case.radius)?;
+    print_reply(rt, reply)?;
+    Ok(counts.with_leg_disagreement())
 }
 
 // The search by balls, in about eight legs where its balls are small; and then while it grows.
-fn try_search(sheet: &[u8], case: Case, random: Random, counts: Counts) -> Counts {
+fn try_search(
+    rt: &impl Print,
+    sheet: &[u8],
+    case: Case,
+    random: Random,
+    counts: Counts,
+) -> io::Result<Counts> {
     let run = engine::run(case.size, case.radius, LARGEST_BUDGET, sheet);
     let search = search_in_legs(sheet, case, run.calls / 4 + 1, random);
     let reply = search.reply;
     let checkpoint = search.checkpoint;
     if search.within && same(reply, run) && ended(sheet, case, checkpoint) {
-        return try_growth(sheet, case, random, run, counts.with_search(search.legs));
+        let searched = counts.with_search(search.legs);
+        return try_growth(rt, sheet, case, random, run, searched);
     }
-    report_legs(case, search.legs, reply, counts)
+    report_legs(rt, case, search.legs, reply, counts)
 }
 
 // A leg on a Horn sheet, with a checkpoint that would be refused on any other sheet.
-fn try_horn_leg(sheet: &[u8], case: Case, random: Random, counts: Counts) -> Counts
+fn try_horn_leg(
+    rt: &impl Print,
+    sheet: &[u8],
+    case: Case,
+    random: Random,
+    counts: Counts,
+) -> io::Result<Counts>
     requires { case.n ≤ 12 }
 {
     let budget = random.next().below(case.n + 2);
@@ -170,21 +187,27 @@ fn try_horn_leg(sheet: &[u8], case: Case, random: Random, counts: Counts) -> Cou
     checkpoint.next = random.state;
     let end = leg(sheet, case, budget, checkpoint);
     if stays(end, run, checkpoint) {
-        return counts.with_horn_leg();
+        return Ok(counts.with_horn_leg());
     }
     let reply = end.reply;
-    report_legs(case, 1, added(0, reply), counts)
+    report_legs(rt, case, 1, added(0, reply), counts)
 }
 
 // The sheet of a case, if it is one of those that are decided in legs.
-pub fn try_legs(sheet: &[u8], case: Case, random: Random, counts: Counts) -> Counts
+pub fn try_legs(
+    rt: &impl Print,
+    sheet: &[u8],
+    case: Case,
+    random: Random,
+    counts: Counts,
+) -> io::Result<Counts>
     requires { case.n ≤ 12 }
 {
     if SHEETS_IN_LEGS <= case.number {
-        return counts;
+        return Ok(counts);
     }
     if case.horn {
-        return try_horn_leg(sheet, case, random, counts);
+        return try_horn_leg(rt, sheet, case, random, counts);
     }
-    try_search(sheet, case, random, counts)
+    try_search(rt, sheet, case, random, counts)
 }
