@@ -1,4 +1,4 @@
-/* The terms engine's C interface. `rt staticlib engine` writes the library, target/staticlib/libengine.a, for x86-64 Linux.
+/* The terms engine's C interface. `tools/archive` writes the library, target/staticlib/libengine.a, for x86-64 Linux.
 
    Every function answers for every input, allocates nothing, keeps no state, and touches nothing but its stack and the
    buffers that it is lent. The host sees to this, which nothing checks:
