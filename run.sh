@@ -6,7 +6,7 @@
 # It prints the program's line, as `batch 70000 ball clear calls 2 marks 1 0 0 0`, and then what it means.
 set -eu
 here=$(cd "$(dirname "$0")" && pwd)
-program=$here/target/bin/clearing
+program=$here/crates/clearing/out/clearing
 
 # The crates that `clearing` is made of, in the order of crates.txt, where each stands after what it uses.
 needed() {
@@ -22,8 +22,10 @@ needed() {
         }' "$here/crates.txt"
 }
 
+# `rt lib` proves and builds a library, `rt run` the program, which it then runs on nothing.
 check() {
-    (cd "$here" && rt check "$1") >"$scratch/log" 2>&1 || {
+    case $1 in clearing) verb=run ;; *) verb=lib ;; esac
+    (cd "$here/crates/$1" && rt $verb) </dev/null >"$scratch/log" 2>&1 || {
         cat "$scratch/log" >&2
         exit 1
     }
@@ -33,7 +35,7 @@ check() {
 built() {
     [ -x "$program" ] || return 1
     for crate in $crates; do
-        [ -z "$(find "$here/crates/$crate" -type f ! -path '*/must-fail/*' -newer "$program")" ] || return 1
+        [ -z "$(find "$here/crates/$crate" -type f ! -path '*/must-fail/*' ! -path '*/out/*' -newer "$program")" ] || return 1
     done
 }
 
@@ -43,7 +45,7 @@ build() {
         check clearing
         return
     fi
-    echo "proving the program's crates; the first time this takes three to five minutes" >&2
+    echo "proving the program's crates; the first time this takes FIRST_TIME" >&2
     total=$(echo "$crates" | wc -l) at=0
     for crate in $crates; do
         at=$((at + 1))

@@ -4,10 +4,7 @@
 set -eu
 cd "$(dirname "$0")/.."
 mkdir -p target/host
-rt staticlib engine >target/host/staticlib.log 2>&1 || {
-    cat target/host/staticlib.log
-    exit 1
-}
+tools/archive
 gcc -O2 -Wall -Wextra -Werror host/clear.c target/staticlib/libengine.a -o target/host/clear
 gcc -O2 -Wall -Wextra -Werror host/legs.c target/staticlib/libengine.a -o target/host/legs
 tail -c +13 crates/clearing/stdin >target/host/sheet

@@ -1,4 +1,4 @@
-/* The terms engine's C interface. `rt staticlib engine` writes the library, target/staticlib/libengine.a, for x86-64 Linux.
+/* The terms engine's C interface. `tools/archive` writes the library, target/staticlib/libengine.a, for x86-64 Linux.
 
    Every function answers for every input, allocates nothing, keeps no state, and touches nothing but its stack and the
    buffers that it is lent. The host sees to this, which nothing checks:
@@ -8,7 +8,8 @@
      the table, a tally or a record. A pointer may be null where its length is 0. The two sheets of alike or of leg_longer, and the two
      arrays of clause_counts, may share a buffer; the parts of a tally and its sheet may not.
    - There is enough stack: run takes about 375 KB at its deepest (241 KB with 32 variables, 97 KB on a Horn sheet), leg 333 KB (199 KB
-     with 32 variables, 114 KB on a Horn sheet), leg_longer 370 KB (236 KB, 151 KB), split 215 KB, alike 91 KB, clause_counts and the operations on a tally 37 KB, covering_code 32 KB (docs/BENCH.md).
+     with 32 variables, 114 KB on a Horn sheet), leg_longer 370 KB (236 KB, 151 KB), split 215 KB, alike 91 KB, clause_counts and the operations on a tally 37 KB, covering_code 32 KB (docs/BENCH.md;
+     measured with an older kit).
 
    In every reply `number` and `place` are the refusal's number and place (README.md has the table); both are 0 where nothing
    is refused, and a refusal is told by number not 0. What does not belong to an answer is 0. */

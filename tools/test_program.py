@@ -13,7 +13,7 @@ import time
 import unittest
 
 ROOT = os.path.dirname(os.path.dirname(os.path.abspath(__file__)))
-PROGRAM = os.path.join(ROOT, 'target', 'bin', 'clearing')
+PROGRAM = os.path.join(ROOT, 'crates', 'clearing', 'out', 'clearing')
 HOST = os.path.join(ROOT, 'target', 'host', 'clear')
 
 # a header of batch 70000 with 3 variables, and the clauses (1 2)(-1 -3)(-3)
@@ -780,5 +780,5 @@ class Split(unittest.TestCase):
 
 if __name__ == '__main__':
     if not os.access(PROGRAM, os.X_OK):
-        sys.exit("target/bin/clearing is not built; build it by 'rt check clearing'")
+        sys.exit("crates/clearing/out/clearing is not built; build it by './run.sh'")
     unittest.main()

@@ -327,7 +327,7 @@ class Solver(unittest.TestCase):
     def test_a_program_that_is_not_built(self):
         with self.assertRaises(sheet.Bad) as seen:
             sheet.solve(sheet.formula_of(TEXT), None, os.path.join(HERE, 'no-such-program'))
-        self.assertIn('rt check clearing', str(seen.exception))
+        self.assertIn('run.sh', str(seen.exception))
 
 
 class Split(unittest.TestCase):

@@ -1,5 +1,4 @@
 -- What proofs of the crate engine share.
-pub mod Lent
 pub mod AlikeAnswers
 pub mod CountsAnswers
 pub mod TallyAnswers

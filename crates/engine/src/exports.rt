@@ -1,5 +1,5 @@
-// The operations on codes, on two sheets, on a clause and on a tally for a host in C
-// (include/engine.h): the answers of the crates code, alike, search and tally, in numbers.
+// The operations on codes, on two sheets, on a clause and on a tally, as engine_c exports them to a
+// host in C: the answers of the crates code, alike, ball and tally, in numbers.
 ghost use Rattle.std.specs.Prelude.{◌≡◌, cond};
 ghost use Rattle.code.specs.Operations.{code_answer, code_table, volume_answer, floor_answer};
 ghost use Rattle.tally.specs.Tally.{tally_begin, tally_toggle, tally_holds, tally_in};
@@ -72,23 +72,20 @@ fn in_numbers(answer: Answer) -> NumberReply
     }
 }
 
-#[unsafe(no_mangle)]
-pub extern "C" fn covering_code(t: u32, s: u32, table: &mut [u16]) -> NumberReply
+pub fn covering_code(t: u32, s: u32, table: &mut [u16]) -> NumberReply
     ensures answer { result ≡ result_of (code_answer t s table.old) }
     ensures cells { table.new ≡ code_table t s table.old }
 {
     in_numbers(code::code(t, s, table))
 }
 
-#[unsafe(no_mangle)]
-pub extern "C" fn ball_volume(t: u32, s: u32) -> NumberReply
+pub fn ball_volume(t: u32, s: u32) -> NumberReply
     ensures { result ≡ result_of (volume_answer t s) }
 {
     in_numbers(code::volume(t, s))
 }
 
-#[unsafe(no_mangle)]
-pub extern "C" fn covering_floor(t: u32, s: u32) -> NumberReply
+pub fn covering_floor(t: u32, s: u32) -> NumberReply
     ensures { result ≡ result_of (floor_answer t s) }
 {
     in_numbers(code::floor(t, s))
@@ -119,15 +116,13 @@ fn compared(of: Comparison) -> AlikeReply
     }
 }
 
-#[unsafe(no_mangle)]
-pub extern "C" fn alike(first: &[u8], second: &[u8]) -> AlikeReply
+pub fn alike(first: &[u8], second: &[u8]) -> AlikeReply
     ensures { result ≡ alike_to first.now second.now }
 {
     compared(alike::compare(first, second))
 }
 
-#[unsafe(no_mangle)]
-pub extern "C" fn clause_counts(
+pub fn clause_counts(
     sheet: &[u8],
     clause: u32,
     marks: &[u32; words::WORDS],
@@ -173,8 +168,7 @@ fn tally_reply(outcome: Outcome) -> TallyReply
     }
 }
 
-#[unsafe(no_mangle)]
-pub extern "C" fn tally_begin(
+pub fn tally_begin(
     sheet: &[u8],
     marks: &mut [u32; words::WORDS],
     met: &mut [u8; tally::NUMBERS],
@@ -187,8 +181,7 @@ pub extern "C" fn tally_begin(
     tally_reply(tally::begin(sheet, marks, met, unmet))
 }
 
-#[unsafe(no_mangle)]
-pub extern "C" fn tally_toggle(
+pub fn tally_toggle(
     sheet: &[u8],
     variable: u32,
     marks: &mut [u32; words::WORDS],
@@ -202,8 +195,7 @@ pub extern "C" fn tally_toggle(
     tally_reply(tally::toggle(sheet, variable, marks, met, unmet))
 }
 
-#[unsafe(no_mangle)]
-pub extern "C" fn tally_holds(unmet: u32) -> u32
+pub fn tally_holds(unmet: u32) -> u32
     ensures { result ≡ cond (tally_holds unmet) 1 0 }
 {
     if tally::holds(unmet) { 1 } else { 0 }

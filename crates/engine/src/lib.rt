@@ -1,5 +1,5 @@
-// The engine: a sheet decided by a plan within a budget, in legs, or by splitting, for Rattle and
-// for C.
+// The engine: a sheet decided by a plan within a budget, in legs, or by splitting. Each answer is in
+// the numbers that C gets; the crate engine_c exports these functions.
 #![tactic(auto)]
 
 mod exports;
@@ -17,31 +17,22 @@ pub use exports::{
 };
 use legs::{Checkpoint, LegReply, leg_by_value, leg_longer_by_value};
 
-// `decide` for a host in C.
-#[unsafe(no_mangle)]
-pub extern "C" fn run(size: u32, radius: u32, budget: u32, sheet: &[u8]) -> Reply
+// `decide` in numbers.
+pub fn run(size: u32, radius: u32, budget: u32, sheet: &[u8]) -> Reply
     ensures { result ≡ reply_to (plan size radius) budget sheet.now }
 {
     numbers(decide(size, radius, budget, sheet))
 }
 
-// `decide_by_splitting` for a host in C.
-#[unsafe(no_mangle)]
-pub extern "C" fn split(budget: u32, sheet: &[u8]) -> Reply
+// `decide_by_splitting` in numbers.
+pub fn split(budget: u32, sheet: &[u8]) -> Reply
     ensures { result ≡ split_to budget sheet.now }
 {
     numbers(decide_by_splitting(budget, sheet))
 }
 
-// `find_core` for a host in C.
-#[unsafe(no_mangle)]
-pub extern "C" fn clash(
-    size: u32,
-    radius: u32,
-    budget: u32,
-    sheet: &[u8],
-    list: &mut [u16],
-) -> Reply
+// `find_core` in numbers.
+pub fn clash(size: u32, radius: u32, budget: u32, sheet: &[u8], list: &mut [u16]) -> Reply
     ensures answer { result ≡ clash_to (plan size radius) budget sheet.now (length list.old) }
     ensures cells { list.new ≡
         list_after (core_to (plan size radius) budget sheet.now (length list.old)).kept list.old }
@@ -49,9 +40,8 @@ pub extern "C" fn clash(
     numbers(deletion::find_core(size, radius, budget, sheet, list))
 }
 
-// A leg for a host in C, which lends the record and finds it moved on.
-#[unsafe(no_mangle)]
-pub extern "C" fn leg(
+// A leg for a host, which lends the record and finds it moved on.
+pub fn leg(
     size: u32,
     radius: u32,
     budget: u32,
@@ -67,8 +57,7 @@ pub extern "C" fn leg(
 }
 
 // The same on an old sheet and a longer one.
-#[unsafe(no_mangle)]
-pub extern "C" fn leg_longer(
+pub fn leg_longer(
     size: u32,
     radius: u32,
     budget: u32,
