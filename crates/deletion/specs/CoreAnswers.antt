@@ -22,12 +22,12 @@ use Rattle.formula.proofs.ParseRefused.{parse_refused}
 use Rattle.code.specs.Code.{code}
 use Rattle.code.specs.Operations.{coded?}
 use Rattle.tree.specs.Explore.{powers}
-use Rattle.tree.specs.Budget.{Answer, clear, spent, answer}
+use Rattle.tree.specs.Budget.{answer}
 use Rattle.tree.proofs.BudgetLaws.{spent_calls}
 use Rattle.tree.proofs.Decides.{IsNone, IsSpent}
 use Rattle.search.specs.Run.{Plan, blocks, centre_count, summed_radius, longest}
 use Rattle.decision.specs.declared.Reply.{Reply}
-use Rattle.decision.specs.Answers.{outcome, answered, refusal, judged, numbers_of, reply_of, reply_to, counts, declines, BAD_PLAN, REFUSED, NONE, SPENT}
+use Rattle.decision.specs.Answers.{outcome, refusal, judged, numbers_of, reply_of, reply_to, counts, declines, BAD_PLAN, NONE, SPENT}
 use Rattle.decision.specs.Right.{Accepted, decided_by}
 use Rattle.decision.specs.DemandLaws.{outcome_bounded, reply_accepted, none_number, spent_number}
 use Rattle.deletion.specs.Core.{pick, only, Core, ended, core, deletion, core_read, core_to, clash_to, list_after, SHORT_LIST}

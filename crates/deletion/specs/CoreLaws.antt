@@ -1,11 +1,11 @@
 -- Laws of deletion: what is kept is a core, under every larger budget the same one, and with enough of a budget nothing is spent.
 use Rattle.std.specs.Prelude.{◌≡◌, ◌⊎◌, Bool, not, eqb}
 use Rattle.std.proofs.Math.Path.{refl, ap, subst}
-use Rattle.std.proofs.Common.{sym, ◌∙◌, ⊎_elim, suc-add, add-zero, add-suc, le_trans, mul-le-mul_left, arith, length-append}
+use Rattle.std.proofs.Common.{sym, ◌∙◌, ⊎_elim, suc-add, add-zero, add-suc, le_trans, mul-le-mul_left, arith}
 use Rattle.std.proofs.Math.Logic.{inl, inr}
 use Rattle.std.proofs.Math.Bool.{true, false}
 use mathlib.Core.List.Memᴰ
-use mathlib.Core.List.{List, [], ◌∷◌, ◌++◌, map, append-nil, append_assoc}
+use mathlib.Core.List.{List, [], ◌∷◌, ◌++◌, map, append-nil}
 use Prim.Native.Nat.{ℕ, zero, suc, ◌+◌, ◌*◌, ◌^◌, ◌≤◌, ◌<◌}
 use Rattle.std.proofs.Math.Nat.{zero-add}
 use Rattle.std.proofs.Math.Dec.{ltb}
@@ -13,10 +13,10 @@ use Rattle.std.proofs.Math.ListN.{length, get_or, length-map, get_or-map, get_or
 use Rattle.std.proofs.Math.Seq.{ext_get_or}
 use borrow.Author.Tests.{ltb-true, ltb-false, eqb-false, not-true}
 use Rattle.words.specs.Lists.{In, keep, span}
-use Rattle.words.proofs.ListLaws.{apart, every_in, in_every, keep_in, in_span, span_in, length_span, get_or_span}
+use Rattle.words.proofs.ListLaws.{apart, every_in, in_every, keep_in, in_span, length_span, get_or_span}
 use Rattle.formula.specs.Formula.{Clause, Formula, WellFormed, some_met, all_true, Satisfiable}
 use Rattle.code.specs.Code.{code}
-use Rattle.tree.specs.Explore.{Outcome, calls, powers}
+use Rattle.tree.specs.Explore.{Outcome, powers}
 use Rattle.tree.proofs.TreeLaws.{powers_more}
 use Rattle.tree.specs.Budget.{Answer, clear, spent, answer}
 use Rattle.tree.proofs.BudgetLaws.{clear_found, none_none, spent_calls}

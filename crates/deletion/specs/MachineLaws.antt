@@ -1,15 +1,15 @@
 -- The laws that `sift`, `core_of`, `core_table` and `find_core` cite, one for each way through them.
-use Rattle.std.specs.Prelude.{◌≡◌, refl, Bool, true, false, ℕ, zero, suc, ◌+◌, ◌-◌, ◌*◌, ◌≤◌, ◌<◌, take, drop}
+use Rattle.std.specs.Prelude.{◌≡◌, refl, Bool, true, false, ℕ, suc, ◌+◌, ◌-◌, ◌*◌, ◌≤◌, ◌<◌, take, drop}
 use Rattle.std.proofs.Math.Path.{sym, ap, subst}
 use Rattle.std.proofs.Common.{◌∙◌, true≢false, arith, length-drop, drop_of_length-le}
 use mathlib.Core.List.{List, [], ◌∷◌, ◌++◌}
 use Rattle.std.proofs.Math.ListN.{length}
 use borrow.Author.Tests.{lt-ltb, le-ltb}
-use Rattle.words.specs.Lists.{every, span}
+use Rattle.words.specs.Lists.{span}
 use Rattle.words.proofs.ListLaws.{apart, every_in, in_every}
 use Rattle.formula.specs.Formula.{Clause, Formula, clause_limit}
 use Rattle.words.specs.declared.Refusal.{Refusal}
-use Rattle.formula.specs.Machine.{row_cells, cell_count, held, Table, SheetRead}
+use Rattle.formula.specs.Machine.{row_cells, held, Table, SheetRead}
 use Rattle.formula.proofs.ReadingLaws.{sheet_accepted, sheet_refused}
 use Rattle.formula.specs.declared.Reading.{Reading}
 use Rattle.formula.specs.declared.Reading.TheVariants.{Accepted, Refused as Stop}

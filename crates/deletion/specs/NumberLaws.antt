@@ -1,5 +1,5 @@
 -- Laws of the numbers kept: one more of them, and their copy in a list.
-use Rattle.std.specs.Prelude.{◌≡◌, refl, List, [], ◌∷◌, ◌++◌, ℕ, suc, ◌+◌, ◌-◌, ◌≤◌, ◌<◌, get_or, set}
+use Rattle.std.specs.Prelude.{◌≡◌, refl, List, ◌∷◌, ◌++◌, ℕ, suc, ◌+◌, ◌-◌, ◌≤◌, ◌<◌, get_or, set}
 use Rattle.std.proofs.Common.{sym, ◌∙◌, subst, le_refl, le_of_lt, arith, length-set, length-drop, length-take-le, take-suc, drop-cons, drop-set-lt, get_or-set_same, get_or-drop}
 use Rattle.std.proofs.Math.Path.{ap}
 use Rattle.std.proofs.Math.ListN.{length, take, drop}
@@ -9,7 +9,6 @@ use Rattle.words.proofs.ListLaws.{apart}
 use Rattle.formula.specs.Formula.{clause_limit}
 use Rattle.tree.specs.Budget.{clear, none}
 use Rattle.decision.specs.Answers.{Verdict, answered}
-use Rattle.deletion.specs.declared.numbers.Step.{Step}
 use Rattle.deletion.specs.declared.numbers.Step.TheVariants.{Next, End}
 use Rattle.deletion.specs.Core.{Core, by_verdict, list_after}
 use Rattle.deletion.specs.Machine.{Onward, left_out, stays, Turned}

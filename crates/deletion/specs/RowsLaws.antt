@@ -1,12 +1,11 @@
 -- Laws of the table of a part of the clauses: the first i rows as they were, and behind them those of the numbers kept.
-use Rattle.std.specs.Prelude.{◌≡◌, refl, ◌⊎◌, Bool, true, false, List, [], ◌∷◌, ◌++◌, map, ℕ, zero, suc, ◌+◌, ◌-◌, ◌*◌, ◌≤◌, ◌<◌, ltb, length, get_or, take, drop}
-use Rattle.std.proofs.Common.{sym, ap, ◌∙◌, subst, inl, inr, ⊎_elim, zero-add, add-zero, le_trans, arith, length-append, length-drop, ext_get_or, get_or-drop, get_or-append-add, ltb-true, ltb-false}
-use Rattle.std.proofs.lemmas.List.{length-map}
-use Rattle.std.proofs.Math.ListN.{get_or-map, get_or-append, get_or-eq_default}
+use Rattle.std.specs.Prelude.{◌≡◌, refl, Bool, true, false, List, [], ◌∷◌, ◌++◌, ℕ, zero, suc, ◌+◌, ◌-◌, ◌*◌, ◌≤◌, ◌<◌, ltb, length, get_or, take, drop}
+use Rattle.std.proofs.Common.{sym, ap, ◌∙◌, subst, zero-add, le_trans, arith, length-append, length-drop, ext_get_or, get_or-drop, get_or-append-add, ltb-true, ltb-false}
+use Rattle.std.proofs.Math.ListN.{get_or-append}
 use Rattle.words.specs.Lists.{In, span}
 use Rattle.words.proofs.ListLaws.{length_span, get_or_span}
 use Rattle.formula.specs.Formula.{Clause, WellFormedClause, length_limit, clause_limit}
-use Rattle.formula.specs.Machine.{row_cells, cell_count, length_at, clause_at, held, Table, Row, RowCopied}
+use Rattle.formula.specs.Machine.{row_cells, cell_count, length_at, clause_at, held, Table, RowCopied}
 use Rattle.formula.proofs.TableLaws.{take_kept, length_kept, clause_kept, length_held, held_at, table_row}
 use Rattle.deletion.specs.Core.{pick}
 use Rattle.deletion.specs.CoreLaws.{Rising, rising_in, rising_few, in_get_or, pick_length}
