@@ -16,6 +16,7 @@ use Rattle.words.proofs.BitLaws.{digit}
 use Rattle.words.proofs.CountLaws.{count_same, count_adds, count_some, count_keep, some_count, every_count}
 use Rattle.formula.specs.Formula.{Literal, Clause, met, is_opposite, some_met}
 use Rattle.formula.proofs.CountLaws.{opposite_bit, opposite_met}
+use Rattle.ball.specs.Names.{ones_of, zeros_of}
 use Rattle.ball.specs.Ball.{State, is_flipped, is_open, reading, true?, is_true, is_dead, restricted, meets_s, flipped_met, is_lone, has_lone_opposite, meets_l}
 
 -- a literal is open, by whether it is met and flipped
@@ -224,13 +225,6 @@ module _ (s : State) (l : Literal) (unmet : met s.assignment l ≡ false) (fresh
       go false e = rw (and-false (eqb left 1))
 
 -- ---- the names of clauses (source 000, section 2.5)
-
--- Under an assignment a clause has a name by its p literals that are true, the ones, and its m literals that are false, the zeros.
-unfoldable pub ones_of : ℕ → Clause → ℕ
-ones_of m c = count (met m) c
-
-unfoldable pub zeros_of : ℕ → Clause → ℕ
-zeros_of m c = count (λ l. not (met m l)) c
 
 -- no flipped literal of the clause is met
 unfoldable pub NoFlippedMet : State → Clause → Type 0

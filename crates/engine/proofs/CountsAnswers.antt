@@ -5,7 +5,8 @@ use Rattle.std.proofs.Math.ListN.{get_or-eq_default}
 use Rattle.formula.specs.Formula.{Clause, Formula, some_met}
 use Rattle.formula.specs.Sheet.{accepted, parse}
 use Rattle.ball.specs.Ball.{State, true?, is_true, restricted}
-use Rattle.ball.proofs.ReadingLaws.{ones_of, zeros_of, NoFlippedMet, reading_true, reading_ones, reading_zeros}
+use Rattle.ball.specs.Names.{ones_of, zeros_of}
+use Rattle.ball.proofs.ReadingLaws.{NoFlippedMet, reading_true, reading_ones, reading_zeros}
 use Rattle.ball.proofs.ClauseLaws.{counting_none}
 use Rattle.engine.specs.Replies.{clause_counts_of, clause_counts_to}
 
