@@ -28,11 +28,10 @@ plan_bounds = coded_bounds
 
 module _ (n size radius : ℕ) (cs : List Clause) (l : Layout) (whole last : List ℕ) where
   -- they are laid out,
-  pub codes_laid : LaidOut n size radius l whole last → CodesFor n size radius cs l whole last
-  codes_laid h =
-      let (e, f) = h.named in
+  pub codes_laid : (l.size ≡ size) × (l.radius ≡ radius) → LaidOut n size radius l whole last → CodesFor n size radius cs l whole last
+  codes_laid (e, f) h =
       let own = subst (λ (r : ℕ). LaidOut n size r l whole last) (sym f) h in
-      record { named = h.named; codes = λ balls. subst (λ (b : ℕ). LaidOut n b l.radius l whole last) (sym e) own }
+      record { named = (e, f); codes = λ balls. subst (λ (b : ℕ). LaidOut n b l.radius l whole last) (sym e) own }
 
   -- or the clauses are Horn.
   pub codes_none : l.size ≡ size → l.radius ≡ radius → is_horn cs ≡ true → CodesFor n size radius cs l whole last

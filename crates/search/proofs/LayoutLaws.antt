@@ -197,7 +197,6 @@ module _ (n size radius : ℕ) (l : Layout) (whole last : List ℕ) where
       let wholes = replicate_same l.whole _ _ (λ z. words_block size radius l.count whole (w.words z)) in
       let inside : l.whole * l.radius ≤ l.whole * l.size = mul-le-mul_left l.whole (rw (e, f) within) in
       record {
-        named = (e, f);
         laying = record {
           wholes = w.size;
           lasts = w'.size;

@@ -84,9 +84,8 @@ pub record Laying (n : ℕ) (l : Layout) (whole last : List ℕ) : Type 0 where
   pub variables : n ≡ l.whole * l.size + l.last
   pub reach : l.whole * l.radius + min l.radius l.last ≤ width
 
--- and its blocks are the plan's, which it names
+-- and its blocks are the plan's
 pub record LaidOut (n size radius : ℕ) (l : Layout) (whole last : List ℕ) : Type 0 where
-  pub named : (l.size ≡ size) × (l.radius ≡ radius)
   pub laying : Laying n l whole last
   pub same : blocks_in l whole last ≡ blocks code (plan size radius) n
 

@@ -37,7 +37,8 @@ pub fn lay_out(
 ) -> Layout
     requires n_le_width { (n ≤ width) × (1 ≤ size) × (size ≤ 12) × (radius ≤ size) }
     requires whole_len { (length whole.old ≡ code_cells) × (length last.old ≡ code_cells) }
-    ensures { LaidOut n size radius result whole.new last.new }
+    ensures laid_out { LaidOut n size radius result whole.new last.new }
+    ensures named { (result.size ≡ size) × (result.radius ≡ radius) }
 {
     let blocks = n / size;
     let rest = n % size;

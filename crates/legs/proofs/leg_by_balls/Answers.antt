@@ -23,7 +23,7 @@ counted batch k cells laid e =
 pub leg-progress-requires : goal.leg-progress-requires
 leg-progress-requires c =
     let a = c.args in
-    let laid = c.lay_out-layout.ensures in
+    let laid = c.lay_out-layout.ensures.laid_out in
     let cut = counted a.batch a.k a.cells.now laid c.centres-centres.ensures in
     let f : Formula = formula_in a.batch a.n a.k a.cells.now in
     let said = c.check_leg.ensures ∙ checks_cut _ _ _ _ _ f _ _ cut in
@@ -37,7 +37,7 @@ pub returns-in-Passed : goal.returns-in-Passed
 returns-in-Passed c =
     let a = c.args in
     let f : Formula = formula_in a.batch a.n a.k a.cells.now in
-    let laid = c.lay_out-layout.ensures in
+    let laid = c.lay_out-layout.ensures.laid_out in
     let cut = counted a.batch a.k a.cells.now laid c.centres-centres.ensures in
     let said = c.check_leg.ensures ∙ checks_cut _ _ _ _ _ _ _ _ cut in
     let fine = checks_fine _ _ _ _ _ _ _ (sym said ∙ c.in-Passed.is) in
@@ -52,7 +52,7 @@ returns-in-Passed c =
 pub returns-in-Declined : goal.returns-in-Declined
 returns-in-Declined c =
     let a = c.args in
-    let cut = counted a.batch a.k a.cells.now c.lay_out-layout.ensures c.centres-centres.ensures in
+    let cut = counted a.batch a.k a.cells.now c.lay_out-layout.ensures.laid_out c.centres-centres.ensures in
     let said = c.check_leg.ensures ∙ checks_cut _ _ _ _ _ _ _ _ cut in
     c.refuse_leg.ensures
     ∙ leg_declines a.before _ _ _ (formula_in a.batch a.n a.k a.cells.now) _ _ _ (sym said ∙ c.in-Declined.is)

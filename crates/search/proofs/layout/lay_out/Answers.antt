@@ -14,4 +14,7 @@ pub returns : goal.returns
 returns c =
     let wholes = c.block_code-count.ensures in
     let lasts = rw c.least.ensures at c.block_code-last_count.ensures in
-    laid_out c.args.n c.args.size c.args.radius _ _ _ refl refl refl refl c.requires.n_le_width.0 c.requires.n_le_width.1 c.requires.n_le_width.3 wholes lasts
+    record {
+      laid_out = laid_out c.args.n c.args.size c.args.radius _ _ _ refl refl refl refl c.requires.n_le_width.0 c.requires.n_le_width.1 c.requires.n_le_width.3 wholes lasts;
+      named = (refl, refl);
+    }
