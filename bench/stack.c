@@ -1,9 +1,10 @@
-/* Measures the stack that run, leg, leg_longer, split, alike, clause_counts, tally_toggle and covering_code take: each runs on a painted stack, and
+/* Measures the stack that run, leg, leg_longer, split, clash, alike, clause_counts, tally_toggle and covering_code take: each runs on a painted stack, and
    the paint left is counted. The sheet makes the search as deep as it can be, n flips: in every block each variable is within the radius. Each flip
    is of the last literal of its clause, after up to seven whose variables are flipped already, so that a stack that grows with a clause's literals
    shows too. Without its last clause the sheet is Horn and takes n + 1 rounds. n 128 is the limit; n 32 was it before paper 5. The old sheet of
    leg_longer is the same one, or has 1,024 clauses, each of which stands in the longer one, mostly under another number.
-   Splitting is n + 1 calls deep where a clause is decided at the last variable, by variables held, or paid, or with the longest sheet. */
+   Splitting is n + 1 calls deep where a clause is decided at the last variable, by variables held, or paid, or with the longest sheet. An empty
+   clause behind the others is the core of a sheet: clash runs the sheet without it, as deep as it can be. */
 #include <pthread.h>
 #include <stdio.h>
 #include <stdlib.h>
@@ -81,6 +82,12 @@ static void do_longer(const uint8_t *first, size_t first_length)
 }
 static void *do_same(void *unused) { do_longer(sheet, length); return unused; }
 static void *do_old(void *unused) { do_longer(old, old_length); return unused; }
+static void *do_clash(void *unused)
+{
+    static uint16_t list[1024];
+    reply = clash(1, 1, 1000000, sheet, length, list, 1024);
+    return unused;
+}
 static void *do_split(void *unused) { reply = split(1000000, sheet, length); return unused; }
 static void *do_alike(void *unused) { alike(sheet, length, sheet, length); return unused; }
 static void *do_counts(void *unused)
@@ -150,6 +157,18 @@ static void measure_longer(uint32_t n)
     printf("n %u: leg_longer %zu bytes (Horn: %zu; the same sheet twice: %zu, and Horn: %zu)\n", n, balls, horn, same, horn_same);
 }
 
+/* The core is one clause, on the road that the sheet with that clause takes. */
+static size_t measure_clash(uint32_t n, int horn)
+{
+    size_t base = used(do_nothing);
+    make(n, horn);
+    put(1u << 30);
+    size_t bytes = used(do_clash);
+    if (reply.verdict == ENGINE_NONE && reply.calls == 1 && reply.road == (horn ? ENGINE_HORN : ENGINE_BALLS)) return bytes - base;
+    fprintf(stderr, "the core is not the empty clause: %u clauses\n", reply.calls);
+    exit(1);
+}
+
 static void measure(uint32_t n)
 {
     size_t base = used(do_nothing);
@@ -161,6 +180,8 @@ static void measure(uint32_t n)
            used(do_counts) - base, used(do_toggle) - base);
     printf("n %u: leg %zu bytes (Horn: %zu)\n", n, deepest(do_leg, n + 1, ENGINE_BALLS) - base, leg_horn);
     measure_longer(n);
+    size_t of_balls = measure_clash(n, 0), of_rounds = measure_clash(n, 1);
+    printf("n %u: clash %zu bytes (Horn: %zu)\n", n, of_balls, of_rounds);
     measure_split(n);
 }
 
