@@ -1,2 +1,2 @@
--- What the contracts of the program core cite.
+-- What the contracts of the program minimal_core cite.
 pub mod Program
