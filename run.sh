@@ -45,7 +45,7 @@ build() {
         check clearing
         return
     fi
-    echo "proving the program's crates; the first time this takes FIRST_TIME" >&2
+    echo "proving the program's crates; the first time this takes several minutes" >&2
     total=$(echo "$crates" | wc -l) at=0
     for crate in $crates; do
         at=$((at + 1))
