@@ -1,4 +1,3 @@
--- The crate search. What a reader must believe: Run (blocks, centres, run, legs). Machine says how the machine's data are read; the
--- others are laws.
+-- The crate search. What a reader must believe: Run (blocks, centres, run, legs). Machine says how the machine's data are read.
 pub mod Run
 pub mod Machine

@@ -1,5 +1,5 @@
-// What every search within a budget of calls gives. The definitions of searches, their laws, and
-// what follows for an engine that decides are in specs/.
+// What every search within a budget of calls gives. The definitions of searches are in specs/, their
+// laws and what follows for an engine that decides in proofs/.
 #![tactic(auto)]
 
 ghost use Rattle.std.specs.Prelude.{◌≡◌, leb};
