@@ -18,14 +18,14 @@ use Rattle.code.specs.Code.{code}
 use Rattle.tree.specs.Explore.{none, calls}
 use Rattle.tree.specs.Budget.{Answer, clear, spent, whole, answer}
 use Rattle.tree.proofs.Decides.{Decides}
-use Rattle.tree.proofs.TreeLaws.{plus_zero, powers_more}
+use Rattle.tree.proofs.TreeLaws.{plus_zero}
 use Rattle.tree.specs.Budget.{settle}
 use Rattle.tree.proofs.BudgetLaws.{count_of, assignment_of, answer_whole, count_whole, settle_spent}
 use Rattle.tree.specs.Legs.{Progress, progress, turn}
 use Rattle.tree.proofs.LegLaws.{Told, told_clear, told_none, told_spent, leg_from_lem, leg_goes_on}
-use Rattle.search.specs.Run.{Plan, search_of, ball, leg_of, longest, Emptied}
+use Rattle.search.specs.Run.{Plan, search_of, ball, leg_of, Emptied}
 use Rattle.search.proofs.CallLaws.{ball_some}
-use Rattle.search.proofs.LegLaws.{found_model, emptied_all, emptied_join, some_centre, stands_longest}
+use Rattle.search.proofs.LegLaws.{found_model, emptied_all, emptied_join, some_centre}
 use Rattle.horn.specs.Horn.{is_horn}
 use Rattle.decision.specs.declared.Reply.{Reply}
 use Rattle.legs.specs.declared.Checkpoint.{Checkpoint}
@@ -35,7 +35,7 @@ use Rattle.decision.specs.Answers.{outcome, answered, judged, counts, declines, 
 use Rattle.decision.specs.Right.{Accepted, decided_by}
 use Rattle.decision.specs.DemandLaws.{covering, clear_number, spent_number, marks_number, calls_number, reply_accepted, reply_right, reply_none, run_further}
 use Rattle.decision.specs.HornAnswers.{by_balls}
-use Rattle.legs.specs.Legs.{about, refused_leg, decided_leg, leg_marks, Leg, alone, centres, moved_to, balls_leg, leg_on, leg_read, takes, Brings, Searched, checkpoint_after, Turn, turns, summed, start, OnOne, StandsIn, Follow, Enough, EnoughFor, ball_legs, FIRST, CLAUSE_DROPPED}
+use Rattle.legs.specs.Legs.{about, refused_leg, decided_leg, leg_marks, Leg, alone, centres, moved_to, balls_leg, leg_on, leg_read, takes, Brings, Searched, checkpoint_after, Turn, turns, summed, start, OnOne, StandsIn, Follow, Enough, ball_legs, FIRST, CLAUSE_DROPPED}
 use Rattle.legs.specs.LegRefusals.{LegReason, bad_plan_lem, bad_old, bad_sheet, unchecked}
 use Rattle.legs.specs.LegRefusals as Why
 use Rattle.legs.proofs.LegLaws as Laws
@@ -322,19 +322,6 @@ legs_end p f ls each = (
             ls (start p f) (omega (arith, some_centre code covering p f.n)) (λ t i. (each t i, all t i)),
       ),
 )
-
--- The same where the clauses of each leg all stand in g, with the longest clause of g.
-pub legs_limit : (p : Plan) (g : Formula) (ls : List Leg) → ((t : Turn) → In t (turns (start p g) ls) → EnoughFor g t) →
-    (ball_legs (turns (start p g) ls) ≤ centres p g)
-    × (((t : Turn) → In t (turns (start p g) ls) → eqb t.reply.road BALLS ≡ true → t.reply.verdict ≡ SPENT) → ball_legs (turns (start p g) ls) < centres p g)
-legs_limit p g ls each = legs_end p g ls (λ t i. enough t (each t i))
-  where
-    longer : (s : List ℕ) (f : Formula) → parse s ≡ accepted f → stands f.clauses g.clauses ≡ true → longest f.clauses ≤ longest g.clauses
-    longer s f read st = stands_longest f.clauses g.clauses (λ c i. ((parse_well_formed s f read).each c i).once) st
-
-    enough : (t : Turn) → EnoughFor g t → Enough t
-    enough t (kept, f, read, each) =
-        (kept, f, read, λ other. let (st, affords) = each other in le_trans (powers_more _ (longer t.leg.sheet f read st)) affords)
 
 -- A none of a leg, where balls were emptied for its sheet before the next one, is a none.
 none_after : (p : Plan) (g : Formula) (r : Checkpoint) → Laws.Empties p g r →
