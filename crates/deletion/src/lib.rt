@@ -151,15 +151,15 @@ pub fn find_core(size: u32, radius: u32, budget: u32, sheet: &[u8], list: &mut [
         };
         return refused(refusal);
     }
+    let short = Refusal {
+        number: SHORT_LIST,
+        place: 0,
+    };
     let mut table = formula::empty_table();
     match formula::read_sheet(sheet, &mut table) {
         Reading::Accepted { batch, n, clauses } => {
             if list.len() < clauses {
-                let refusal = Refusal {
-                    number: SHORT_LIST,
-                    place: 0,
-                };
-                return refused(refusal);
+                return refused(short);
             }
             core_table(&table, batch, n, clauses, size, radius, budget, list)
         }
