@@ -3,8 +3,6 @@ use Rattle.std.specs.Prelude.{Bool, cond, ◌&&◌, List, ℕ, eqb}
 use Rattle.formula.specs.Formula.{Formula}
 use Rattle.formula.specs.Sheet.{Result, accepted, refused, parse}
 use Rattle.formula.specs.Sets.{same_clauses}
-use Rattle.alike.specs.declared.Comparison.{Comparison}
-use Rattle.alike.specs.declared.Comparison.TheVariants.{Alike, Different, Refused}
 
 -- n is equal, and the clauses, each taken as a set of literals, form the same set: batch, order and repetition do not count.
 unfoldable pub alike : Formula → Formula → Bool
@@ -17,11 +15,17 @@ FIRST = 1
 abbrev pub SECOND : ℕ
 SECOND = 2
 
+-- What two sheets are to each other, or a refusal's number and place and the sheet that it is about.
+pub data Comparison : Type 0 where
+  are_alike : Comparison
+  are_different : Comparison
+  declined : (sheet number place : ℕ) → Comparison
+
 -- The first sheet is read, then the second.
 unfoldable pub compared : Result Formula → Result Formula → Comparison
-compared (refused number place) second = Refused FIRST (record { number = number; place = place })
-compared (accepted f) (refused number place) = Refused SECOND (record { number = number; place = place })
-compared (accepted f) (accepted g) = cond (alike f g) Alike Different
+compared (refused number place) second = declined FIRST number place
+compared (accepted f) (refused number place) = declined SECOND number place
+compared (accepted f) (accepted g) = cond (alike f g) are_alike are_different
 
 -- What two lists of bytes are to each other.
 unfoldable pub comparison : List ℕ → List ℕ → Comparison

@@ -1,2 +1,3 @@
 -- The definitions of the crate alike.
 pub mod Alike
+pub mod Machine

@@ -1,5 +1,6 @@
 -- The laws of a call's choice: which literals are tried, and which clause is taken, by the variables that are forced.
-use Rattle.std.specs.Prelude.{◌≡◌, Bool, ◌&&◌, ℕ, ◌+◌, ◌≤◌, ◌<◌, eqb, ltb}
+use Rattle.std.specs.Prelude.{◌≡◌, Bool, ◌&&◌, ℕ, ◌+◌, ◌≤◌, ◌<◌, eqb, ltb, Option, Some, None, MatchOption, unwrap_or}
+use Rattle.std.specs.Option.{option_or}
 use Rattle.std.proofs.Math.Path.{refl, sym, ap}
 use Rattle.std.proofs.Common.{◌∙◌, eq-or-lt_of_le, arith}
 use Rattle.std.proofs.Math.Logic.{⊎_elim}
@@ -15,7 +16,7 @@ use Rattle.formula.specs.Formula.{Literal, Clause, bit_of, names}
 use Rattle.formula.specs.Machine.{held, clause_at}
 use Rattle.formula.proofs.HeldLaws.{held_none, held_first}
 use Rattle.planes.specs.declared.Kind.TheVariants.{Zero, Few}
-use Rattle.planes.specs.Machine.{First, set_at, test_of, wanted}
+use Rattle.planes.specs.Machine.{First, FirstFound, set_at, test_of, wanted}
 use Rattle.ball.specs.Ball.{State, is_flipped, reading, is_true, restricted, meets_s, has_lone_opposite, meets_l, is_tried, select, skip}
 use Rattle.ball.proofs.ReadingLaws.{true_met, false_unmet, short_reading, short_false, lone_false, left_in, in_left, flipped_lone}
 use Rattle.ball.proofs.RuleLaws.{preferred, preferred_false}
@@ -108,10 +109,13 @@ module _ (k : ℕ) (cells : List ℕ) (s : State) where
   unfolding test_of
   zero_false i = and-true (eqb (met_in s (clause_at cells i)) 0) ∙ sym (ap not (true_met s (clause_at cells i)) ∙ not-not _)
 
+  -- from clause `from` to r none meets L
+  abbrev pub UnsparedTo : ℕ → ℕ → Type 0
+  UnsparedTo from r = (j : ℕ) → from ≤ j → j < r → is_spared k cells s j ≡ false
+
   -- From clause i to the next false one, r, none but i can meet L.
-  pub unspared_next : (from i r : ℕ) → ((j : ℕ) → from ≤ j → j < i → is_spared k cells s j ≡ false) →
-      is_spared k cells s i ≡ false → First (i + 1) k (wanted Zero 0 cells (met_in s) (open_in s)) r →
-      (j : ℕ) → from ≤ j → j < r → is_spared k cells s j ≡ false
+  pub unspared_next : (from i r : ℕ) → UnsparedTo from i → is_spared k cells s i ≡ false →
+      First (i + 1) k (wanted Zero 0 cells (met_in s) (open_in s)) r → UnsparedTo from r
   unspared_next from i r before here f j l h = go (ltb j i) refl
     where
       go : (b : Bool) → ltb j i ≡ b → is_spared k cells s j ≡ false
@@ -121,6 +125,13 @@ module _ (k : ℕ) (cells : List ℕ) (s : State) where
           (λ (e : i ≡ j). ap (is_spared k cells s) (sym e) ∙ here)
           (λ later. true_unspared j (not-false _ (sym (zero_false j) ∙ f.before j (omega arith) h)))
           (eq-or-lt_of_le (ltb-false j i q))
+
+  -- From clause i, which does not meet L, to the next false one.
+  pub lone_next : (from i : ℕ) → UnsparedTo from i → is_spared k cells s i ≡ false → (r : Option ℕ) →
+      FirstFound (i + 1) k (wanted Zero 0 cells (met_in s) (open_in s)) r →
+      MatchOption r (UnsparedTo from k) (λ j. (j < k) × (is_true s (clause_at cells j) ≡ false) × UnsparedTo from j)
+  lone_next from i before here None f = unspared_next from i k before here f
+  lone_next from i before here (Some j) f = (f.0, not-true _ (sym (zero_false j) ∙ f.1.here f.0), unspared_next from i j before here f.1)
 
   -- `first` is the first false clause, `few` the first that meets S, and c the first that meets L before that one, or that one.
   module _ (first : ℕ) (p : FirstFalse k cells s first) (inside : first < k) (few : ℕ)
@@ -143,7 +154,7 @@ module _ (k : ℕ) (cells : List ℕ) (s : State) where
             rw (sym (few_short i) ∙ short.before i from (omega (arith, f.within)), f.before i from h)
 
     -- It is taken, where there is one;
-    pub selected_here : (c ≡ k → ⊥) → Selected k cells s c
+    selected_here : (c ≡ k → ⊥) → Selected k cells s c
     unfolding select
     selected_here d =
         let l : c < k = omega (arith, f.within, short.within) in
@@ -161,7 +172,7 @@ module _ (k : ℕ) (cells : List ℕ) (s : State) where
             (eq-or-lt_of_le f.within)
 
     -- otherwise the first false one is.
-    pub selected_first : c ≡ k → Selected k cells s first
+    selected_first : c ≡ k → Selected k cells s first
     unfolding select
     selected_first e =
         let none = held_none k cells (preferred (held k cells) s) (λ i h. ordinary i (omega arith)) in
@@ -171,3 +182,22 @@ module _ (k : ℕ) (cells : List ℕ) (s : State) where
               ∙ held_first k cells (λ x. not (is_true s x)) first [] inside (p.here inside) (λ i h. p.before i (omega arith) h);
           failing = not-true _ (p.here inside);
         }
+
+-- where there is none, k stands for it
+pub found_within : (i k : ℕ) (test : ℕ → Bool) (r : Option ℕ) → FirstFound i k test r → unwrap_or r k ≤ k
+found_within i k test None f = omega arith
+found_within i k test (Some j) f = omega arith
+
+-- what is known where there is none
+pub at_none : (P : Type 0) (Q : ℕ → Type 0) (r : Option ℕ) → ((j : ℕ) → r ≡ Some j → ⊥) → MatchOption r P Q → P
+at_none P Q None none h = h
+at_none P Q (Some j) none h = absurd (none j refl)
+
+-- The clause that is taken: the first that meets L before the first that meets S, or that one, or else the first false one.
+pub selected : (k : ℕ) (cells : List ℕ) (s : State) (first : ℕ) → FirstFalse k cells s first → first < k → (few lone : Option ℕ) →
+    FirstFound first k (wanted Few 0 cells (met_in s) (open_in s)) few →
+    FirstFound first (unwrap_or few k) (is_spared k cells s) lone → Selected k cells s (unwrap_or (option_or lone few) first)
+selected k cells s first p inside None None short f = selected_first k cells s first p inside k short k f refl
+selected k cells s first p inside None (Some i) short f = selected_here k cells s first p inside k short i f.1 (λ e. omega arith)
+selected k cells s first p inside (Some j) None short f = selected_here k cells s first p inside j short.1 j f (λ e. omega arith)
+selected k cells s first p inside (Some j) (Some i) short f = selected_here k cells s first p inside j short.1 i f.1 (λ e. omega arith)

@@ -1,5 +1,5 @@
 -- The variables that clauses force to stay as they are: which they are at a centre, and how a flip adds to them.
-use Rattle.std.specs.Prelude.{◌≡◌, Bool, ◌||◌, List, [], ◌∷◌, ℕ, ◌+◌, ◌-◌, ◌≤◌, ◌<◌, eqb, ltb}
+use Rattle.std.specs.Prelude.{◌≡◌, Bool, ◌||◌, List, [], ◌∷◌, ℕ, ◌+◌, ◌-◌, ◌≤◌, ◌<◌, eqb, ltb, Option, Some, None, IfSome, MatchOption}
 use Rattle.std.proofs.Math.Path.{refl, ap}
 use Rattle.std.proofs.Common.{sym, ◌∙◌, subst, inl, inr, eq-or-lt_of_le, arith, eqb-true, ltb-true, ltb-false}
 use Rattle.std.proofs.Math.Logic.{⊎_elim}
@@ -15,7 +15,7 @@ use Rattle.formula.specs.Counts.{opposite}
 use Rattle.formula.specs.Machine.{Table, IsLiteral, held, clause_at}
 use Rattle.formula.proofs.TableLaws.{held_in}
 use Rattle.formula.proofs.HeldLaws.{held_some}
-use Rattle.planes.specs.Machine.{one_zero, test_of}
+use Rattle.planes.specs.Machine.{lane_count, one_zero, test_of, FirstFound}
 use Rattle.ball.specs.Ball.{State, is_flipped, is_open, reading, true?, is_true, is_dead, is_lone, has_lone_opposite, flip}
 use Rattle.ball.proofs.ReadingLaws.{lone_reading}
 use Rattle.ball.proofs.FlipLaws.{dead_after, fresh_before, unmet_before, lone_stays, lone_new}
@@ -69,6 +69,11 @@ module _ (s : State) (l : Literal) (unmet : met s.assignment l ≡ false) (fresh
 
 -- ---- gathering
 
+-- the number of a clause is one of a lane
+pub below_lanes : (from : ℕ) (r : Option ℕ) → IfSome r (λ i. (from ≤ i) × (i < lane_count)) → IfSome r (λ i. i < lane_count)
+below_lanes from None h = h
+below_lanes from (Some i) h = h.1
+
 module _ {cells : List ℕ} {test : ℕ → Bool} {b : ℕ} where
   -- no clause passes before r
   pub gathered_none : (r : ℕ) → ((j : ℕ) → j < r → test j ≡ false) → Gathered r cells test b b
@@ -103,6 +108,23 @@ module _ {cells : List ℕ} {test : ℕ → Bool} {b : ℕ} where
           (λ (same : i ≡ j). or_right (bit g v) (bit q v) (own v h ∙ rw same n))
           (λ later. absurd (true≢false (sym t ∙ none j (omega arith) l)))
           (eq-or-lt_of_le (ltb-false j i e))
+
+-- The same up to a clause that was looked for, the first one and the next.
+module _ (k : ℕ) (cells : List ℕ) (test : ℕ → Bool) (b : ℕ) where
+  abbrev GatheredTo : Option ℕ → ℕ → Type 0
+  GatheredTo r g = MatchOption r (Gathered k cells test b g) (λ i. (i < k) × (test i ≡ true) × Gathered i cells test b g)
+
+  pub gathered_start : (r : Option ℕ) → FirstFound 0 k test r → GatheredTo r b
+  gathered_start None f = gathered_none _ (λ j h. f.before j (omega arith) h)
+  gathered_start (Some i) f = (f.0, f.1.here f.0, gathered_none _ (λ j h. f.1.before j (omega arith) h))
+
+  pub gathered_on : {g : ℕ} (i : ℕ) → i < k → Gathered i cells test b g → test i ≡ true → (q g' : ℕ) →
+      ((v : ℕ) → v < width → bit q v ≡ names (v + 1) (clause_at cells i)) →
+      ((v : ℕ) → v < width → bit g' v ≡ (bit g v || bit q v)) → (r : Option ℕ) → FirstFound (i + 1) k test r →
+      IfSome r (λ j. (i + 1 ≤ j) × (j < lane_count)) → GatheredTo r g'
+  gathered_on i inside g here q g' own sum None f later = gathered_next i g here q g' own sum _ inside f.before
+  gathered_on i inside g here q g' own sum (Some j) f later =
+      (f.0, f.1.here f.0, gathered_next i g here q g' own sum j (omega (arith, later.0)) f.1.before)
 
 -- the state and the set before may be said in another way
 pub forces_same : {k : ℕ} {cells : List ℕ} {s s' : State} {u b b' q : ℕ} → s ≡ s' → b ≡ b' → Forces k cells s u b q → Forces k cells s' u b' q

@@ -1,102 +1,86 @@
 // The clause whose literals a call tries, and the variables that clauses force to stay.
 ghost use Rattle.std.specs.Prelude.{◌≡◌, List, ℕ, ◌≤◌, ◌<◌};
 ghost use Rattle.words.specs.Machine.{set_of};
-ghost use Rattle.planes.specs.Machine.{lane_count, row_count, First};
+ghost use Rattle.planes.specs.Machine.{word_of, FirstFound};
 ghost use Rattle.ball.specs.Ball.{State};
 ghost use Rattle.ball.specs.Machine.{state_in, Ready, Shows, Seen, Standing, is_spared, FirstFalse, Selected, is_new, Gathered, Forces};
 
 use crate::path::Path;
-use planes::{Kind, NO_LITERAL, OCCURRENCES, PLANES};
+use formula::Literal;
+use planes::{Kind, Occurrences, PLANES};
 use words::Set;
 
-// The first clause that meets L, from the false clause `from` on and before `end`, or `end`: only
-// false clauses are looked at, and none where no variable is forced.
+// The first clause that meets L, from the false clause `from` on and before `end`: only false
+// clauses are looked at, and none where no variable is forced.
 fn first_lone(
-    occ: &[u64; OCCURRENCES],
-    k: usize,
+    occ: &Occurrences,
     planes: &[u64; PLANES],
     at: Path,
     from: usize,
     end: usize,
-) -> usize
-    requires { (k ≤ lane_count) × (from ≤ k) × (end ≤ k) }
-    ensures { (cells : List ℕ) → Ready k cells occ.now → Shows k cells (state_in at) planes.now →
-        Standing k cells (state_in at) (set_of at.forced) → FirstFalse k cells (state_in at) from → from < k →
-        First from end (is_spared k cells (state_in at)) result }
+) -> Option<usize>
+    requires { (from ≤ occ.now.count) × (end ≤ occ.now.count) }
+    ensures { (cells : List ℕ) → Ready occ.now.count cells occ.now.table → Shows occ.now.count cells (state_in at) planes.now →
+        Standing occ.now.count cells (state_in at) (set_of at.forced) → FirstFalse occ.now.count cells (state_in at) from →
+        from < occ.now.count → FirstFound from end (is_spared occ.now.count cells (state_in at)) result }
 {
     let forced = at.forced;
     if !forced.meets(forced) {
-        return end;
+        return None;
     }
-    let mut i = from;
-    while i < end {
-        if planes::set_at(occ, i).meets(forced) {
-            return i;
+    let mut next = Some(from);
+    while let Some(i) = next {
+        if end <= i {
+            return None;
         }
-        i = planes::next(occ, k, NO_LITERAL, Kind::Zero, planes, i + 1);
+        if occ.set_at(i).meets(forced) {
+            return Some(i);
+        }
+        next = occ.next(None, Kind::Zero, planes, i + 1);
     }
-    end
+    None
 }
 
 // The clause that a call takes, where `first` is the first false one: the first that meets S or L,
 // or else that one.
-pub fn choose(
-    occ: &[u64; OCCURRENCES],
-    k: usize,
-    planes: &[u64; PLANES],
-    at: Path,
-    first: usize,
-) -> usize
-    requires { Seen k occ.now planes.now (state_in at) × (first < k) }
-    ensures { (cells : List ℕ) → Ready k cells occ.now → Shows k cells (state_in at) planes.now →
-        Standing k cells (state_in at) (set_of at.forced) → FirstFalse k cells (state_in at) first →
-        Selected k cells (state_in at) result }
+pub fn choose(occ: &Occurrences, planes: &[u64; PLANES], at: Path, first: usize) -> usize
+    requires { Seen occ.now.count occ.now.table planes.now (state_in at) × (first < occ.now.count) }
+    ensures { (cells : List ℕ) → Ready occ.now.count cells occ.now.table → Shows occ.now.count cells (state_in at) planes.now →
+        Standing occ.now.count cells (state_in at) (set_of at.forced) → FirstFalse occ.now.count cells (state_in at) first →
+        Selected occ.now.count cells (state_in at) result }
 {
-    let few = planes::next(occ, k, NO_LITERAL, Kind::Few, planes, first);
-    let clause = first_lone(occ, k, planes, at, first, few);
-    if clause == k { first } else { clause }
+    let few = occ.next(None, Kind::Few, planes, first);
+    let end = few.unwrap_or(occ.count);
+    let lone = first_lone(occ, planes, at, first, end);
+    lone.or(few).unwrap_or(first)
 }
 
 // The variables of some clauses, added to those of `before`: of the clauses with one literal met and
 // none open, those that hold a literal, or all where there is none to hold.
-fn gather(
-    occ: &[u64; OCCURRENCES],
-    k: usize,
-    literal: u32,
-    planes: &[u64; PLANES],
-    before: Set,
-) -> Set
-    requires { (k ≤ lane_count) × (literal < row_count) }
-    ensures { (cells : List ℕ) (s : State) → Ready k cells occ.now → Shows k cells s planes.now →
-        Gathered k cells (is_new cells s literal) (set_of before) (set_of result) }
+fn gather(occ: &Occurrences, literal: Option<Literal>, planes: &[u64; PLANES], before: Set) -> Set
+    ensures { (cells : List ℕ) (s : State) → Ready occ.now.count cells occ.now.table → Shows occ.now.count cells s planes.now →
+        Gathered occ.now.count cells (is_new cells s (word_of literal)) (set_of before) (set_of result) }
 {
     let mut named = before;
-    let mut i = planes::next(occ, k, literal, Kind::Lone, planes, 0);
-    while i < k {
-        let own = planes::set_at(occ, i);
+    let mut next = occ.next(literal, Kind::Lone, planes, 0);
+    while let Some(i) = next {
+        let own = occ.set_at(i);
         named = named.united(own);
-        i = planes::next(occ, k, literal, Kind::Lone, planes, i + 1);
+        next = occ.next(literal, Kind::Lone, planes, i + 1);
     }
     named
 }
 
 // The path with what is forced there, where it came with what was forced before.
-pub fn force(
-    occ: &[u64; OCCURRENCES],
-    k: usize,
-    literal: u32,
-    planes: &[u64; PLANES],
-    at: Path,
-) -> Path
-    requires { (k ≤ lane_count) × (literal < row_count) }
+pub fn force(occ: &Occurrences, literal: Option<Literal>, planes: &[u64; PLANES], at: Path) -> Path
     ensures result_value { state_in result ≡ state_in at }
-    ensures by_index { (cells : List ℕ) → Ready k cells occ.now → Shows k cells (state_in at) planes.now →
-        Forces k cells (state_in at) literal (set_of at.forced) (set_of result.forced) }
+    ensures by_index { (cells : List ℕ) → Ready occ.now.count cells occ.now.table → Shows occ.now.count cells (state_in at) planes.now →
+        Forces occ.now.count cells (state_in at) (word_of literal) (set_of at.forced) (set_of result.forced) }
 {
     let assignment = at.assignment;
     let flipped = at.flipped;
     let before = at.forced;
-    let named = gather(occ, k, literal, planes, before);
+    let named = gather(occ, literal, planes, before);
     let forced = named.without(flipped);
     Path {
         assignment,

@@ -7,7 +7,7 @@ pub mod counts;
 mod path;
 mod reading;
 
-pub use ball::call;
+pub use ball::Ball;
 pub use choice::force;
 pub use path::Path;
 pub use reading::{Reading, clause_reading};

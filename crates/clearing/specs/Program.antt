@@ -1,13 +1,9 @@
 -- What the program answers to any input (paper 01, "Settled examples", the program `clearing`).
-use Rattle.std.specs.Prelude.{cond, List, ℕ, ltb, length, get_or, drop}
-use Rattle.formula.specs.Sheet.{words}
+use Rattle.std.specs.Prelude.{cond, List, ℕ, ltb, length, drop}
 use Rattle.decision.specs.declared.Reply.{Reply}
 use Rattle.decision.specs.Answers.{reply_to, declines, BAD_PLAN}
 use Rattle.search.specs.Run.{plan}
-
--- word i of the input
-abbrev pub word_of_input : List ℕ → ℕ → ℕ
-word_of_input input i = get_or (words input) i 0
+use Rattle.line.specs.Request.{word_of_input}
 
 -- Block length, radius and budget are the first three words, and the rest is a sheet. Fewer than 12 bytes are a bad plan.
 unfoldable pub program_reply : List ℕ → Reply

@@ -6,27 +6,23 @@ ghost use Rattle.std.specs.Prelude.{◌≡◌};
 ghost use Rattle.clearing.specs.Program.{program_reply};
 
 use decision::Reply;
-use formula::word_at;
-use line::{print_line, read_input};
+use line::{INPUT, Line, Request, read_input};
 use std::io;
+use words::Reason;
 
 // Input that is too short for a plan and a budget is a bad plan.
+#[tactic(auto, unfolding(crate::specs::Program::program_reply, words::specs::Refusals::number_of,))]
 fn answer(input: &[u8]) -> Reply
     ensures { result ≡ program_reply input.now }
 {
-    if input.len() < 12 {
-        return decision::declined(code::BAD_PLAN, 0);
-    }
-    let size = word_at(input, 0);
-    let radius = word_at(input, 1);
-    let budget = word_at(input, 2);
-    engine::run(size, radius, budget, &input[12..])
+    let Some(asked) = Request::read(input) else {
+        return decision::declined(Reason::BadPlan.at(0));
+    };
+    engine::run(asked.size, asked.radius, asked.budget, asked.sheet)
 }
 
 fn main(rt: HostRuntime) -> io::Result<()> {
-    // One word more than the plan, the budget and the longest sheet: longer input is seen as
-    // overlong.
-    let mut input = [0u8; 36892];
-    let n = read_input(&rt, &mut input)?;
-    print_line(&rt, answer(&input[..n]))
+    let mut room = [0u8; INPUT];
+    let input = read_input(&rt, &mut room)?;
+    rt.println(Line::from(answer(input)))
 }

@@ -6,8 +6,10 @@ use Rattle.std.proofs.Math.Bool.{true, false, cond}
 use Rattle.std.proofs.lemmas.Bool.{false≢true}
 use mathlib.Core.List.{List, [], ◌∷◌}
 use Prim.Native.Nat.{ℕ, zero, suc, ◌+◌, ◌-◌, ◌*◌, ◌/◌, ◌^◌, ◌≤◌, ◌<◌, zero-le}
-use Rattle.std.proofs.Math.Nat.{lt-div-mul-add}
+use Rattle.std.proofs.Math.Nat.{lt-div-mul-add, lt_of_mul-lt-mul_right}
 use native.Mathlib.Omega.{arith}
+use Rattle.std.specs.Int.{div_ceil}
+use Rattle.std.proofs.lemmas.Grind.{div_ceil_times}
 use Rattle.words.specs.Lists.{first, span}
 use Rattle.words.proofs.ListLaws.{length_span}
 use Rattle.code.specs.Covering.{Covers}
@@ -77,3 +79,10 @@ floor_quotient t s =
     le_antisymm
     (le_of_suc-le-suc ((div-lt_iff_lt-mul (volume_pos t s)).1 (rw suc-mul (omega (arith, floor_enough t s, volume_pos t s)))))
     (floor_least t s _ (omega (arith, lt-div-mul-add {a = 2 ^ t + (volume t s - 1)} (volume_pos t s), volume_pos t s)))
+
+pub floor_ceil : (t s : ℕ) → div_ceil (2 ^ t) (volume t s) ≡ floor t s
+floor_ceil t s =
+    let near = div_ceil_times (2 ^ t) (volume t s) (volume_pos t s) in
+    le_antisymm
+    (le_of_suc-le-suc (lt_of_mul-lt-mul_right (volume t s) (rw suc-mul (omega (arith, near.1, floor_enough t s)))))
+    (floor_least t s _ near.0)

@@ -9,6 +9,8 @@ use Rattle.std.proofs.Math.Numerals.{add-one}
 use Rattle.std.proofs.Math.Decide.{ℕ_discrete, dec_le}
 use borrow.Author.Tests.{le-leb, lt-leb, eq-eqb, ne_eqb}
 use Rattle.std.proofs.Math.Arith.{bin_ind}
+use Rattle.std.specs.List.{fold, reduce}
+use Rattle.std.specs.Option.{unwrap_or}
 use Rattle.std.specs.Int.Bits.{bit_xor, differ, xor_step, xor_zero_l}
 use Rattle.std.proofs.lemmas.Nat.{xor_shr, xor_mod, xor_comm}
 use Rattle.std.specs.Int.Count.{ones}
@@ -24,14 +26,6 @@ use Rattle.code.specs.Machine.{peak, flagged, listed, Offsets, Counts, Lowerable
 -- ---- the largest gain
 
 module _ (f : ℕ → ℕ) where
-  pub peak_more : (n : ℕ) → peak f n ≤ f n → f n ≡ peak f (n + 1)
-  unfolding peak
-  peak_more n h = rw add-one (sym (max-eq_right h))
-
-  pub peak_keep : (n : ℕ) → f n ≤ peak f n → peak f n ≡ peak f (n + 1)
-  unfolding peak
-  peak_keep n h = rw add-one (sym (max-eq_left h))
-
   larger : (m n : ℕ) → max (f m) (f n) ≡ f (cond (beats (f n) (f m)) n m)
   larger m n = go (beats (f n) (f m)) refl
     where
@@ -45,6 +39,22 @@ module _ (f : ℕ → ℕ) where
   peak_best zero l = absurd (not-suc-le-zero l)
   peak_best (suc zero) l = omega (arith, larger 0 0)
   peak_best (suc (suc n)) l = rw (peak_best (suc n) (suc-le-suc zero-le)) (larger (best f (suc n)) (suc n))
+
+-- taken from the other end
+peak_first : (f : ℕ → ℕ) (n : ℕ) → peak f (suc n) ≡ max (f 0) (peak (λ v. f (suc v)) n)
+unfolding peak
+peak_first f zero = omega arith
+peak_first f (suc n) = rw (peak_first f n) (omega arith)
+
+peak_fold : (a : ℕ) (xs : List ℕ) → fold max a xs ≡ max a (peak (λ v. get_or xs v 0) (length xs))
+unfolding peak
+peak_fold a [] = omega arith
+peak_fold a (x ∷ xs) = rw (peak_fold (max a x) xs, peak_first (λ v. get_or (x ∷ xs) v 0) (length xs)) (omega arith)
+
+pub peak_reduce : (xs : List ℕ) → unwrap_or (reduce max xs) 0 ≡ peak (λ v. get_or xs v 0) (length xs)
+unfolding peak
+peak_reduce [] = refl
+peak_reduce (x ∷ xs) = peak_fold x xs ∙ sym (peak_first (λ v. get_or (x ∷ xs) v 0) (length xs))
 
 -- two first places of a value are one
 pub first_same : (f : ℕ → ℕ) (m a b : ℕ) → f a ≡ m → ((v : ℕ) → v < a → f v ≡ m → ⊥) →

@@ -1,11 +1,10 @@
 -- What the tests of the operations' inputs say.
-use Rattle.std.specs.Prelude.{◌≡◌, true, false, ◌&&◌, List, ℕ, ◌^◌, ◌≤◌, ◌<◌, leb, length}
+use Rattle.std.specs.Prelude.{◌≡◌, Bool, true, false, ◌&&◌, List, ℕ, ◌^◌, ◌≤◌, ◌<◌, leb, length}
 use Rattle.std.proofs.Math.Path.{refl}
 use borrow.Author.Tests.{leb-true, le-leb, lt-leb}
 use Rattle.words.proofs.ListLaws.{and_left, and_right}
-use Rattle.code.specs.declared.Answer.TheVariants.{Number}
 use Rattle.code.specs.Code.{code}
-use Rattle.code.specs.Operations.{block_limit, bad_plan, short_table, coded?, fits?, code_answer, written, code_table, measured?}
+use Rattle.code.specs.Operations.{given, block_limit, bad_plan, short_table, coded?, fits?, code_answer, written, code_table, measured?}
 
 pub measured_le : (t s : ℕ) → measured? t s ≡ true → (t ≤ block_limit) × (s ≤ block_limit)
 unfolding measured?
@@ -37,6 +36,21 @@ module _ (t s : ℕ) (table : List ℕ) where
   code_short e l = (rw (e, lt-leb _ _ l) refl, rw (e, lt-leb _ _ l) refl)
 
   pub code_fits : coded? t s ≡ true → 2 ^ t ≤ length table →
-      (Number (length (code t s)) ≡ code_answer t s table) × (written t s table ≡ code_table t s table)
+      (given (length (code t s)) ≡ code_answer t s table) × (written t s table ≡ code_table t s table)
   unfolding code_answer code_table fits?
   code_fits e l = (rw (e, le-leb _ _ l) refl, rw (e, le-leb _ _ l) refl)
+
+-- and the inputs that a test declines
+pub measured_not : (t s : ℕ) → (t ≤ block_limit → s ≤ block_limit → ⊥) → measured? t s ≡ false
+measured_not t s h = go (measured? t s) refl
+  where
+    go : (b : Bool) → measured? t s ≡ b → b ≡ false
+    go true e = let l = measured_le t s e in absurd (h l.0 l.1)
+    go false e = refl
+
+pub coded_not : (t s : ℕ) → (1 ≤ t → t ≤ block_limit → s ≤ t → ⊥) → coded? t s ≡ false
+coded_not t s h = go (coded? t s) refl
+  where
+    go : (b : Bool) → coded? t s ≡ b → b ≡ false
+    go true e = let l = coded_bounds t s e in absurd (h l.0 l.1 l.2)
+    go false e = refl

@@ -1,10 +1,17 @@
--- What the arrays of the greedy construction hold: the words of a ball around 0, a flag for each word that is not yet covered, and
--- each word's gain.
-use Rattle.std.specs.Prelude.{◌≡◌, Bool, true, false, cond, not, ◌&&◌, List, ◌++◌, ℕ, zero, suc, ◌+◌, ◌-◌, ◌^◌, ◌≤◌, ◌<◌, max, eqb, length, get_or, take, drop}
+-- What the operations answer, as the machine has it; and what the arrays of the greedy construction hold: the words of a ball around 0,
+-- a flag for each word that is not yet covered, and each word's gain.
+use Rattle.std.specs.Prelude.{◌≡◌, Result, Ok, Err, Bool, true, false, cond, not, ◌&&◌, List, ◌++◌, ℕ, zero, suc, ◌+◌, ◌-◌, ◌^◌, ◌≤◌, ◌<◌, max, eqb, length, get_or, take, drop}
 use Rattle.std.specs.Int.Bits.{bit_xor}
 use Rattle.words.specs.Lists.{some, keep, span, In}
 use Rattle.code.specs.Code.{near, greedy, code}
-use Rattle.code.specs.Operations.{written}
+use Rattle.code.specs.Operations.{Answer, given, declined, written}
+use Rattle.words.specs.declared.Refused.{Refused}
+use Rattle.words.specs.Refusals.{number_of}
+
+-- a result as the answer that it stands for
+abbrev pub answer_in : Result ℕ Refused → Answer
+answer_in (Ok n) = given n
+answer_in (Err e) = declined (number_of e.reason) e.place
 
 -- the cells of a table that has room for any code: 2 ^ block_limit
 abbrev pub code_cells : ℕ

@@ -1,22 +1,20 @@
 -- What the operations answer, for every input, and what they leave in the lent table: paper 01, "What the library offers" and "When
 -- the engine declines".
 use Rattle.std.specs.Prelude.{Bool, cond, ◌&&◌, List, ◌++◌, ℕ, ◌^◌, leb, length, drop}
-use Rattle.words.specs.declared.Refusal.{Refusal}
-use Rattle.code.specs.declared.Answer.{Answer}
-use Rattle.code.specs.declared.Answer.TheVariants.{Number, Refused}
 use Rattle.code.specs.Code.{code}
 use Rattle.code.specs.Volume.{volume, floor}
 
--- every refusal here has place 0
-abbrev pub refusal : ℕ → Refusal
-refusal n = record { number = n; place = 0 }
+-- what an operation answers: the number asked for, or the number and the place of a refusal
+pub data Answer : Type 0 where
+  given : ℕ → Answer
+  declined : (number place : ℕ) → Answer
 
--- "bad plan" and "short table"
+-- "bad plan" and "short table": every refusal here has place 0
 abbrev pub bad_plan : Answer
-bad_plan = Refused (refusal 8)
+bad_plan = declined 8 0
 
 abbrev pub short_table : Answer
-short_table = Refused (refusal 9)
+short_table = declined 9 0
 
 -- the longest block
 abbrev pub block_limit : ℕ
@@ -32,7 +30,7 @@ fits? t table = leb (2 ^ t) (length table)
 
 -- the answer of `code`: the number of the code's words
 unfoldable pub code_answer : ℕ → ℕ → List ℕ → Answer
-code_answer t s table = cond (coded? t s) (cond (fits? t table) (Number (length (code t s))) short_table) bad_plan
+code_answer t s table = cond (coded? t s) (cond (fits? t table) (given (length (code t s))) short_table) bad_plan
 
 -- the first cells hold the code and the others what they held
 unfoldable pub written : ℕ → ℕ → List ℕ → List ℕ
@@ -47,7 +45,7 @@ unfoldable pub measured? : ℕ → ℕ → Bool
 measured? t s = leb t block_limit && leb s block_limit
 
 unfoldable pub volume_answer : ℕ → ℕ → Answer
-volume_answer t s = cond (measured? t s) (Number (volume t s)) bad_plan
+volume_answer t s = cond (measured? t s) (given (volume t s)) bad_plan
 
 unfoldable pub floor_answer : ℕ → ℕ → Answer
-floor_answer t s = cond (measured? t s) (Number (floor t s)) bad_plan
+floor_answer t s = cond (measured? t s) (given (floor t s)) bad_plan

@@ -3,90 +3,59 @@
 #![tactic(auto)]
 
 mod greedy;
+mod plan;
 mod volumes;
 
-ghost use Rattle.std.specs.Prelude.{◌≡◌};
-ghost use Rattle.code.specs.Operations.{refusal, coded?, code_answer, code_table, measured?, volume_answer, floor_answer};
+ghost use Rattle.std.specs.Prelude.{◌≡◌, true, false, MatchResult};
+ghost use Rattle.words.specs.Refusals.{number_of};
+ghost use Rattle.code.specs.Operations.{code_answer, code_table, measured?, volume_answer, floor_answer};
+ghost use Rattle.code.specs.Machine.{answer_in};
 
 pub use greedy::fill;
 use greedy::power;
+pub use plan::Plan;
 use volumes::volume_at;
-use words::Refusal;
+use words::{Reason, Refused};
 
 // The longest block, and room for any code: 2^12 words.
 pub const BLOCK_LIMIT: u32 = 12;
 
 pub const CELLS: usize = 4096;
 
-// Paper 01's refusal 8, for a length or a radius out of range.
-pub const BAD_PLAN: u32 = 8;
-// Paper 01's refusal 9.
-const SHORT_TABLE: u32 = 9;
-
-// What an operation answers: its number, or why it declines.
-#[derive(Clone, Copy)]
-pub enum Answer {
-    Number(u32),
-    Refused(Refusal),
-}
-
-fn refuse(number: u32) -> Answer
-    ensures { result ≡ Answer.Refused (refusal number) }
+// Whether there is a volume.
+fn measured(t: u32, s: u32) -> Result<(), Refused>
+    ensures { MatchResult result
+        (λ _. measured? t s ≡ true)
+        (λ e. (number_of e.reason ≡ 8) × (e.place ≡ 0) × (measured? t s ≡ false)) }
 {
-    Answer::Refused(Refusal { number, place: 0 })
-}
-
-fn measured(t: u32, s: u32) -> bool
-    ensures { result ≡ measured? t s }
-{
-    if BLOCK_LIMIT < t {
-        return false;
-    }
-    s <= BLOCK_LIMIT
-}
-
-pub fn volume(t: u32, s: u32) -> Answer
-    ensures { result ≡ volume_answer t s }
-{
-    if measured(t, s) {
-        Answer::Number(volume_at(t, s))
+    if t <= BLOCK_LIMIT && s <= BLOCK_LIMIT {
+        Ok(())
     } else {
-        refuse(BAD_PLAN)
+        Err(Reason::BadPlan.at(0))
     }
 }
 
-pub fn floor(t: u32, s: u32) -> Answer
-    ensures { result ≡ floor_answer t s }
+pub fn volume(t: u32, s: u32) -> Result<u32, Refused>
+    ensures { answer_in result ≡ volume_answer t s }
 {
-    if measured(t, s) {
-        let size = volume_at(t, s);
-        Answer::Number((power(t) as u32 + (size - 1)) / size)
-    } else {
-        refuse(BAD_PLAN)
-    }
+    measured(t, s)?;
+    Ok(volume_at(t, s))
 }
 
-pub fn coded(t: u32, s: u32) -> bool
-    ensures { result ≡ coded? t s }
+pub fn floor(t: u32, s: u32) -> Result<u32, Refused>
+    ensures { answer_in result ≡ floor_answer t s }
 {
-    if t < 1 {
-        return false;
-    }
-    if BLOCK_LIMIT < t {
-        return false;
-    }
-    s <= t
+    measured(t, s)?;
+    Ok((power(t) as u32).div_ceil(volume_at(t, s)))
 }
 
-pub fn code(t: u32, s: u32, table: &mut [u16]) -> Answer
-    ensures answer { result ≡ code_answer t s table.old }
+pub fn code(t: u32, s: u32, table: &mut [u16]) -> Result<u32, Refused>
+    ensures answer { answer_in result ≡ code_answer t s table.old }
     ensures cells { table.new ≡ code_table t s table.old }
 {
-    if !coded(t, s) {
-        return refuse(BAD_PLAN);
-    }
+    let plan = Plan::new(t, s)?;
     if table.len() < power(t) {
-        return refuse(SHORT_TABLE);
+        return Err(Reason::ShortTable.at(0));
     }
-    Answer::Number(fill(t, s, table) as u32)
+    Ok(fill(plan, table) as u32)
 }

@@ -3,43 +3,25 @@
 // were. expect.py beside src/ works out what it must write, on its own.
 #![tactic(auto)]
 
-ghost use Rattle.std.specs.Prelude.{◌≡◌, length};
-
-use code::Answer;
 use engine::NumberReply;
 use std::io;
+use words::Refused;
 
-// A table's cells before a call, and their number.
+// What a table's cells hold before a call, and how many there are.
 const BLANK: u16 = 43981;
 
 const CELLS: usize = 4100;
 
-fn blank() -> [u16; 4100]
-    ensures { 4100 ≡ length result }
-{
-    [BLANK; CELLS]
-}
-
 // How many cells are blank.
-fn blanks(cells: &[u16]) -> u64 {
-    let mut count = 0;
-    let mut i = 0;
-    while i < cells.len() {
-        if cells[i] == BLANK {
-            count += 1;
-        }
-        i += 1;
-    }
-    count
+fn blanks(cells: &[u16]) -> usize {
+    cells.iter().filter(|cell| **cell == BLANK).count()
 }
 
 // The cells and their order.
 fn checksum(cells: &[u16]) -> u64 {
     let mut sum = 0;
-    let mut i = 0;
-    while i < cells.len() {
-        sum = (sum * 31 + cells[i] as u64 + 1) % 1000003;
-        i += 1;
+    for cell in cells {
+        sum = (sum * 31 + u64::from(*cell) + 1) % 1000003;
     }
     sum
 }
@@ -47,24 +29,27 @@ fn checksum(cells: &[u16]) -> u64 {
 fn show_written(rt: &impl Print, count: u32, cells: &[u16]) -> io::Result<()> {
     let n = count as usize;
     if n <= cells.len() {
-        let sum = checksum(&cells[0..n]);
+        let sum = checksum(&cells[..n]);
         let blank = blanks(&cells[n..]);
         print!(rt; " words {count} sum {sum} blank {blank}")?;
     }
     Ok(())
 }
 
-fn show_refused(rt: &impl Print, refusal: u32, place: u32) -> io::Result<()> {
-    print!(rt; " refused {refusal} place {place}")
+fn show_refused(rt: &impl Print, refused: Refused) -> io::Result<()> {
+    print!(rt;
+        " refused {} place {}",
+        refused.reason.number(),
+        refused.place
+    )
 }
 
 fn show_call(rt: &impl Print, t: u32, s: u32, cells: &mut [u16]) -> io::Result<()> {
     print!(rt; " {t} {s}")?;
-    let answer = code::code(t, s, cells);
-    match answer {
-        Answer::Number(count) => show_written(rt, count, cells),
-        Answer::Refused(refusal) => {
-            show_refused(rt, refusal.number, refusal.place)?;
+    match code::code(t, s, cells) {
+        Ok(count) => show_written(rt, count, cells),
+        Err(refused) => {
+            show_refused(rt, refused)?;
             let blank = blanks(cells);
             print!(rt; " blank {blank}")
         }
@@ -73,18 +58,18 @@ fn show_call(rt: &impl Print, t: u32, s: u32, cells: &mut [u16]) -> io::Result<(
 
 // A call of `code` with a table of n blank cells.
 fn show_code(rt: &impl Print, t: u32, s: u32, n: usize) -> io::Result<()> {
-    let mut cells = blank();
+    let mut cells = [BLANK; CELLS];
     print!(rt; "code")?;
     if n <= CELLS {
-        show_call(rt, t, s, &mut cells[0..n])?;
+        show_call(rt, t, s, &mut cells[..n])?;
     }
     Ok(())
 }
 
-fn show_number(rt: &impl Print, answer: Answer) -> io::Result<()> {
+fn show_number(rt: &impl Print, answer: Result<u32, Refused>) -> io::Result<()> {
     match answer {
-        Answer::Number(n) => print!(rt; " {n}"),
-        Answer::Refused(refusal) => show_refused(rt, refusal.number, refusal.place),
+        Ok(n) => print!(rt; " {n}"),
+        Err(refused) => show_refused(rt, refused),
     }
 }
 
@@ -99,19 +84,15 @@ fn show(rt: &impl Print, t: u32, s: u32) -> io::Result<()> {
 }
 
 fn radii(rt: &impl Print, t: u32) -> io::Result<()> {
-    let mut s = 0;
-    while s < 14 {
+    for s in 0..14 {
         show(rt, t, s)?;
-        s += 1;
     }
     Ok(())
 }
 
 fn lengths(rt: &impl Print) -> io::Result<()> {
-    let mut t = 0;
-    while t < 14 {
+    for t in 0..14 {
         radii(rt, t)?;
-        t += 1;
     }
     Ok(())
 }
@@ -139,7 +120,7 @@ fn show_reply(rt: &impl Print, reply: NumberReply) -> io::Result<()> {
 
 // The same operations as a C host calls them.
 fn replies(rt: &impl Print) -> io::Result<()> {
-    let mut cells = blank();
+    let mut cells = [BLANK; CELLS];
     show_reply(rt, engine::covering_code(4, 1, &mut cells))?;
     show_reply(rt, engine::covering_code(4, 5, &mut cells))?;
     show_reply(rt, engine::ball_volume(12, 6))?;

@@ -14,6 +14,7 @@ use Rattle.splitting.specs.Splitting.{split}
 use Rattle.decision.specs.declared.Method.{Method}
 use Rattle.decision.specs.declared.Method.TheVariants.{Unnamed, Horn, Balls}
 use Rattle.decision.specs.declared.Reply.{Reply}
+use Rattle.decision.specs.declared.Ending.{Ending}
 
 -- ---- decisions
 
@@ -81,6 +82,13 @@ NONE = 2
 
 abbrev pub SPENT : ℕ
 SPENT = 3
+
+-- the number of an ending, `verdict` in a reply
+unfoldable pub ending_number : Ending → ℕ
+ending_number Ending.Refused = REFUSED
+ending_number Ending.Clear = CLEAR
+ending_number Ending.None = NONE
+ending_number Ending.Spent = SPENT
 
 abbrev pub NO_ROAD : ℕ
 NO_ROAD = 0

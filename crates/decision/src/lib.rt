@@ -1,34 +1,38 @@
 // A sheet decided by a plan within a budget, or by splitting, and the numbers of a decision.
 #![tactic(auto)]
 
-ghost use Rattle.std.specs.Prelude.{◌≡◌, ◌≤◌, length};
-ghost use Rattle.words.specs.Bits.{width};
+ghost use Rattle.std.specs.Prelude.{◌≡◌};
 ghost use Rattle.words.specs.Machine.{bits_of};
-ghost use Rattle.formula.specs.Machine.{Table, held};
+ghost use Rattle.words.specs.Refusals.{number_of};
+ghost use Rattle.formula.specs.Reading.{formula_of};
 ghost use Rattle.tree.specs.Machine.{answer_in};
-ghost use Rattle.code.specs.Machine.{code_cells};
 ghost use Rattle.search.specs.Run.{plan};
-ghost use Rattle.decision.specs.Answers.{answered, refusal, judged, decision, split_decision, method_number, counts, declines, reply_of};
-ghost use Rattle.decision.specs.Machine.{verdict_in, decision_in, formula_in, plan_in, Coded, CodesFor};
+ghost use Rattle.search.specs.Machine.{plan_in};
+ghost use Rattle.decision.specs.Answers.{answered, refusal, judged, decision, split_decision, ending_number, method_number, counts, declines, reply_of};
+ghost use Rattle.decision.specs.Machine.{verdict_in, decision_in, outcome_in, Coded};
 
-use formula::Reading;
-use search::Layout;
+use code::Plan;
+use formula::Sheet;
+use search::Codes;
 use tree::Found;
-use words::{Assignment, Refusal};
+use words::{Assignment, Refused};
 
-// The numbers of the verdicts.
-pub const REFUSED: u32 = 0;
+// How a decision ended: what a reply tells of its verdict.
+#[derive(Clone, Copy, PartialEq, Eq, Debug)]
+pub enum Ending {
+    Refused = 0,
+    Clear = 1,
+    None = 2,
+    Spent = 3,
+}
 
-pub const CLEAR: u32 = 1;
-
-pub const NONE: u32 = 2;
-
-pub const SPENT: u32 = 3;
-
-// The numbers of the methods; 0 names none.
-pub const HORN: u32 = 1;
-
-pub const BALLS: u32 = 2;
+impl Ending {
+    pub fn number(self) -> u32
+        ensures { result ≡ ending_number self }
+    {
+        self as u32
+    }
+}
 
 // What became of a sheet, with what belongs to it.
 #[derive(Clone, Copy)]
@@ -36,16 +40,25 @@ pub enum Verdict {
     Clear(Assignment, u32),
     None(u32),
     Spent(u32),
-    Refused(Refusal),
+    Refused(Refused),
 }
 
 // How a sheet was decided: by rounds where it is Horn, and otherwise by balls. A refusal names no
 // method, and neither does splitting, which is asked for.
-#[derive(Clone, Copy)]
+#[derive(Clone, Copy, PartialEq, Eq, Debug)]
 pub enum Method {
-    Unnamed,
-    Horn,
-    Balls,
+    Unnamed = 0,
+    Horn = 1,
+    Balls = 2,
+}
+
+impl Method {
+    // `road` in a reply.
+    pub fn number(self) -> u32
+        ensures { result ≡ method_number self }
+    {
+        self as u32
+    }
 }
 
 // The verdict, with the batch number and the method beside it.
@@ -59,7 +72,7 @@ pub struct Decision {
 // A decision as numbers, for a host in C (include/engine.h): the words of the assignment are an
 // array there.
 #[repr(C)]
-#[derive(Clone, Copy)]
+#[derive(Clone, Copy, PartialEq, Eq)]
 pub struct Reply {
     pub verdict: u32,
     pub batch: u32,
@@ -73,19 +86,32 @@ pub struct Reply {
     pub place: u32,
 }
 
-pub fn settled(found: Found) -> Verdict
-    ensures { verdict_in result ≡ answered (answer_in found) }
+impl From<Found> for Verdict {
+    ghost from_gives = { λ found verdict. verdict_in verdict ≡ answered (answer_in found) };
+
+    fn from(found: Found) -> Verdict {
+        match found {
+            Found::Clear(model, calls) => Verdict::Clear(model, calls),
+            Found::None(calls) => Verdict::None(calls),
+            Found::Spent(calls) => Verdict::Spent(calls),
+        }
+    }
+}
+
+// The decision by what a search found.
+pub fn decided(batch: u32, method: Method, found: Found) -> Decision
+    ensures { decision_in result ≡ record { batch = batch; method = method; verdict = answered (answer_in found) } }
 {
-    match found {
-        Found::Clear(model, calls) => Verdict::Clear(model, calls),
-        Found::None(calls) => Verdict::None(calls),
-        Found::Spent(calls) => Verdict::Spent(calls),
+    Decision {
+        batch,
+        method,
+        verdict: Verdict::from(found),
     }
 }
 
 // The decision of a refusal: nothing else belongs to it.
-pub fn refused(why: Refusal) -> Decision
-    ensures { decision_in result ≡ refusal why.number why.place }
+pub fn refused(why: Refused) -> Decision
+    ensures { decision_in result ≡ refusal (number_of why.reason) why.place }
 {
     Decision {
         batch: 0,
@@ -94,135 +120,85 @@ pub fn refused(why: Refusal) -> Decision
     }
 }
 
-// The codes of a plan for k clauses in a table over n variables. They are laid out where the clauses
-// are searched by balls: Horn clauses, and any part of them, need none.
-pub fn codes_for(
-    cells: &[u32; formula::CELLS],
-    n: u32,
-    k: usize,
-    size: u32,
-    radius: u32,
-    whole: &mut [u16; code::CELLS],
-    last: &mut [u16; code::CELLS],
-) -> Layout
-    requires n_le_width { (n ≤ width) × Table n k cells.now × (1 ≤ size) × (size ≤ 12) × (radius ≤ size) }
-    requires whole_len { (length whole.old ≡ code_cells) × (length last.old ≡ code_cells) }
-    ensures { CodesFor n size radius (held k cells.now) result whole.new last.new }
+// Lays out the codes of a plan, of no variables yet, for a sheet that is searched by balls: Horn
+// clauses, and any part of them, need none. They are laid out in place, for they are large.
+pub fn lay_out(sheet: &Sheet, codes: &mut Codes)
+    ensures named { codes.new.plan ≡ codes.old.plan }
+    ensures coded { Coded (formula_of sheet.now) codes.new }
 {
-    if !horn::is_horn(cells, k) {
-        return search::lay_out(n, size, radius, whole, last);
-    }
-    Layout {
-        size,
-        radius,
-        whole: 0,
-        count: 0,
-        last: 0,
-        last_count: 0,
+    if !horn::is_horn(sheet) {
+        codes.lay_out(sheet.n);
     }
 }
 
-// The decision on k clauses in a table over n variables, by a plan whose codes are laid out.
-pub fn decide_laid(
-    cells: &[u32; formula::CELLS],
-    batch: u32,
-    n: u32,
-    k: usize,
-    layout: Layout,
-    whole: &[u16; code::CELLS],
-    last: &[u16; code::CELLS],
-    budget: u32,
-) -> Decision
-    requires { (n ≤ width) × Table n k cells.now × Coded n (held k cells.now) layout whole.now last.now }
-    ensures { decision_in result ≡ judged (plan_in layout) budget (formula_in batch n k cells.now) }
+// The decision on a sheet, by the codes of a plan.
+pub fn decide_laid(sheet: &Sheet, codes: &Codes, budget: u32) -> Decision
+    requires { Coded (formula_of sheet.now) codes.now }
+    ensures { decision_in result ≡ judged (plan_in codes.now.plan) budget (formula_of sheet.now) }
 {
-    if horn::is_horn(cells, k) {
-        let found = horn::rounds(cells, n, k, budget);
-        return Decision {
-            batch,
-            method: Method::Horn,
-            verdict: settled(found),
-        };
+    if horn::is_horn(sheet) {
+        let found = horn::rounds(sheet, budget);
+        return decided(sheet.batch, Method::Horn, found);
     }
-    let found = search::run_laid(cells, n, k, layout, whole, last, budget);
-    Decision {
-        batch,
-        method: Method::Balls,
-        verdict: settled(found),
-    }
+    let found = search::run_laid(sheet, codes, budget);
+    decided(sheet.batch, Method::Balls, found)
 }
 
-// The decision on k clauses in a table over n variables, by an accepted plan: block length and
-// radius.
-pub fn decide_table(
-    cells: &[u32; formula::CELLS],
-    batch: u32,
-    n: u32,
-    k: usize,
-    size: u32,
-    radius: u32,
-    budget: u32,
-) -> Decision
-    requires n_le_width { (n ≤ width) × Table n k cells.now }
-    requires le_size { (1 ≤ size) × (size ≤ 12) × (radius ≤ size) }
-    ensures { decision_in result ≡ judged (plan size radius) budget (record { batch = batch; n = n; clauses = held k cells.now }) }
+// The decision on a sheet by a plan.
+pub fn decide_sheet(sheet: &Sheet, plan: Plan, budget: u32) -> Decision
+    ensures { decision_in result ≡ judged (plan_in plan) budget (formula_of sheet.now) }
 {
-    let mut whole = search::code_cells();
-    let mut last = search::code_cells();
-    let layout = codes_for(cells, n, k, size, radius, &mut whole, &mut last);
-    decide_laid(cells, batch, n, k, layout, &whole, &last, budget)
+    let mut codes = Codes::empty(plan);
+    lay_out(sheet, &mut codes);
+    decide_laid(sheet, &codes, budget)
+}
+
+// The decision on an accepted plan and sheet, or the first refusal: the plan's goes first.
+fn accepted(size: u32, radius: u32, budget: u32, bytes: &[u8]) -> Result<Decision, Refused>
+    ensures { outcome_in result ≡ decision (plan size radius) budget bytes.now }
+{
+    let plan = Plan::new(size, radius)?;
+    let mut sheet = Sheet::empty();
+    sheet.read(bytes)?;
+    Ok(decide_sheet(&sheet, plan, budget))
 }
 
 // The decision on a plan (block length and radius), a budget of calls and the bytes of a sheet.
 pub fn decide(size: u32, radius: u32, budget: u32, sheet: &[u8]) -> Decision
     ensures { decision_in result ≡ decision (plan size radius) budget sheet.now }
 {
-    if !code::coded(size, radius) {
-        let refusal = Refusal {
-            number: code::BAD_PLAN,
-            place: 0,
-        };
-        return refused(refusal);
-    }
-    let mut table = formula::empty_table();
-    match formula::read_sheet(sheet, &mut table) {
-        Reading::Accepted { batch, n, clauses } => {
-            decide_table(&table, batch, n, clauses, size, radius, budget)
-        }
-        Reading::Refused(refusal) => refused(refusal),
-    }
+    accepted(size, radius, budget, sheet).unwrap_or_else(refused)
+}
+
+// The decision by splitting on an accepted sheet, or its refusal.
+fn split(budget: u32, bytes: &[u8]) -> Result<Decision, Refused>
+    ensures { outcome_in result ≡ split_decision budget bytes.now }
+{
+    let mut sheet = Sheet::empty();
+    sheet.read(bytes)?;
+    let found = splitting::split(&sheet, budget);
+    Ok(decided(sheet.batch, Method::Unnamed, found))
 }
 
 // The decision by splitting on a budget of calls and the bytes of a sheet.
 pub fn decide_by_splitting(budget: u32, sheet: &[u8]) -> Decision
     ensures { decision_in result ≡ split_decision budget sheet.now }
 {
-    let mut table = formula::empty_table();
-    match formula::read_sheet(sheet, &mut table) {
-        Reading::Accepted { batch, n, clauses } => {
-            let found = splitting::split(&table, n, clauses, budget);
-            Decision {
-                batch,
-                method: Method::Unnamed,
-                verdict: settled(found),
-            }
-        }
-        Reading::Refused(refusal) => refused(refusal),
-    }
+    split(budget, sheet).unwrap_or_else(refused)
 }
 
-// The reply of a search, with the number of its verdict.
-fn counted(verdict: u32, batch: u32, road: u32, marks: Assignment, calls: u32) -> Reply
-    ensures { result ≡ counts verdict batch road (bits_of marks) calls }
+// The reply of a search.
+fn counted(ending: Ending, batch: u32, method: Method, marks: Assignment, calls: u32) -> Reply
+    ensures { result ≡ counts (ending_number ending) batch (method_number method) (bits_of marks) calls }
 {
     Reply {
-        verdict,
+        verdict: ending.number(),
         batch,
-        road,
-        marks0: marks.w0,
-        marks1: marks.w1,
-        marks2: marks.w2,
-        marks3: marks.w3,
+        road: method.number(),
+        marks0: marks.word(0),
+        marks1: marks.word(1),
+        marks2: marks.word(2),
+        marks3: marks.word(3),
         calls,
         number: 0,
         place: 0,
@@ -230,11 +206,11 @@ fn counted(verdict: u32, batch: u32, road: u32, marks: Assignment, calls: u32) -
 }
 
 // The reply of a refusal: everything else is 0.
-pub fn declined(number: u32, place: u32) -> Reply
-    ensures { result ≡ declines number place }
+pub fn declined(why: Refused) -> Reply
+    ensures { result ≡ declines (number_of why.reason) why.place }
 {
     Reply {
-        verdict: REFUSED,
+        verdict: Ending::Refused.number(),
         batch: 0,
         road: 0,
         marks0: 0,
@@ -242,34 +218,28 @@ pub fn declined(number: u32, place: u32) -> Reply
         marks2: 0,
         marks3: 0,
         calls: 0,
-        number,
-        place,
+        number: why.reason.number(),
+        place: why.place,
     }
 }
 
-// The number of a method, `road` in a reply.
-fn method_number(method: Method) -> u32
-    ensures { result ≡ method_number method }
-{
-    match method {
-        Method::Unnamed => 0,
-        Method::Horn => HORN,
-        Method::Balls => BALLS,
-    }
-}
+impl From<Decision> for Reply {
+    ghost from_gives = { λ decision reply. reply ≡ reply_of (decision_in decision) };
 
-pub fn numbers(decision: Decision) -> Reply
-    ensures { result ≡ reply_of (decision_in decision) }
-{
-    let batch = decision.batch;
-    let method = decision.method;
-    let verdict = decision.verdict;
-    let road = method_number(method);
-    let zero = Assignment::zero();
-    match verdict {
-        Verdict::Clear(model, calls) => counted(CLEAR, batch, road, model, calls),
-        Verdict::None(calls) => counted(NONE, batch, road, zero, calls),
-        Verdict::Spent(calls) => counted(SPENT, batch, road, zero, calls),
-        Verdict::Refused(refusal) => declined(refusal.number, refusal.place),
+    fn from(decision: Decision) -> Reply {
+        let batch = decision.batch;
+        let method = decision.method;
+        match decision.verdict {
+            Verdict::Clear(model, calls) => counted(Ending::Clear, batch, method, model, calls),
+            Verdict::None(calls) => counted(Ending::None, batch, method, Assignment::zero(), calls),
+            Verdict::Spent(calls) => counted(
+                Ending::Spent,
+                batch,
+                method,
+                Assignment::zero(),
+                calls,
+            ),
+            Verdict::Refused(why) => declined(why),
+        }
     }
 }

@@ -3,6 +3,3 @@ pub mod Core
 pub mod CoreLaws
 pub mod CoreAnswers
 pub mod Machine
-pub mod RowsLaws
-pub mod NumberLaws
-pub mod MachineLaws

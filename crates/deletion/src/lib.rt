@@ -2,141 +2,133 @@
 // paper 13).
 #![tactic(auto)]
 
-mod numbers;
+mod kept;
 
-ghost use Rattle.std.specs.Prelude.{◌≡◌, [], ◌≤◌, length};
-ghost use Rattle.words.specs.Bits.{width};
+ghost use Rattle.std.specs.Prelude.{◌≡◌, [], ◌++◌, ◌≤◌, ◌<◌, length, IfOk, MatchResult};
+ghost use Rattle.words.specs.Lists.{span};
 ghost use Rattle.formula.specs.Formula.{clause_limit};
-ghost use Rattle.formula.specs.Machine.{Table, held};
+ghost use Rattle.formula.specs.Reading.{formula_of};
 ghost use Rattle.search.specs.Run.{plan};
+ghost use Rattle.search.specs.Machine.{plan_in};
 ghost use Rattle.decision.specs.Answers.{method_of};
-ghost use Rattle.decision.specs.Machine.{formula_in, decision_in, plan_in, Coded};
-ghost use Rattle.deletion.specs.Core.{sift, deletion, core_to};
-ghost use Rattle.deletion.specs.Machine.{Sifts, Leaves};
+ghost use Rattle.decision.specs.Machine.{verdict_in, decision_in, outcome_in, Coded};
+ghost use Rattle.deletion.specs.Core.{only, sift, deletion, core_to};
+ghost use Rattle.deletion.specs.Machine.{Trying, Onward, Ends, sifted_in, Leaves};
 
-use decision::{Decision, Method, Verdict, codes_for, decide_laid, refused};
-use formula::{CELLS, CLAUSES, Reading};
-use numbers::{Step, no_numbers, put_rows, store, turn};
-use search::Layout;
-use words::Refusal;
+use code::Plan;
+use decision::{Decision, Method, Verdict, decide_laid, lay_out, refused};
+use formula::Sheet;
+use kept::Kept;
+use search::Codes;
+use words::{Reason, Refused};
 
-// The refusal of a list with fewer cells than there are clauses.
-pub const SHORT_LIST: u32 = 14;
-
-// What going through the clauses comes to: the numbers kept, from a cell on, or a run that is spent.
-#[derive(Clone, Copy)]
-enum Sifted {
-    Kept(usize),
-    Stopped(Decision),
-}
-
-// Goes through the k clauses in a table from last to first. A run without clause i is one of the rows
-// before it in a second table, and behind them those of the numbers kept.
-fn sift(
-    cells: &[u32; CELLS],
-    batch: u32,
-    n: u32,
-    k: usize,
-    layout: Layout,
-    whole: &[u16; code::CELLS],
-    last: &[u16; code::CELLS],
-    budget: u32,
-    numbers: &mut [u16; CLAUSES],
-) -> Sifted
-    requires n_le_width { (n ≤ width) × Table n k cells.now × Coded n (held k cells.now) layout whole.now last.now }
-    requires numbers_len { length numbers.old ≡ clause_limit }
-    ensures { Sifts (sift (plan_in layout) budget (formula_in batch n k cells.now) k [])
-        (formula_in batch n k cells.now) k result numbers.new }
+// A trial without clause i: the clauses before it, and those kept behind it.
+fn put_rest(sheet: &Sheet, i: usize, kept: &Kept, trial: &mut Sheet)
+    requires { Trying (formula_of sheet.now) i kept.now (formula_of trial.old) }
+    ensures { formula_of trial.new ≡ only (formula_of sheet.now) (span 0 i ++ kept.now) }
 {
-    let mut table = *cells;
-    let mut at = CLAUSES;
-    let mut i = k;
-    while 0 < i {
-        i -= 1;
-        put_rows(cells, numbers, at, i, &mut table);
-        let count = i + (CLAUSES - at);
-        let rest = decide_laid(&table, batch, n, count, layout, whole, last, budget);
-        let verdict = rest.verdict;
-        at = match turn(verdict, i, at, numbers) {
-            Step::Next(next) => next,
-            Step::End => return Sifted::Stopped(rest),
-        };
+    trial.truncate(i);
+    for number in kept.numbers() {
+        trial.push_clause(sheet, usize::from(*number));
     }
-    Sifted::Kept(at)
 }
 
-// The core of k clauses of which a run has said none, by their method: the numbers kept go to the list.
-fn core_of(
-    cells: &[u32; CELLS],
-    batch: u32,
-    n: u32,
-    k: usize,
-    method: Method,
-    layout: Layout,
-    whole: &[u16; code::CELLS],
-    last: &[u16; code::CELLS],
-    budget: u32,
-    list: &mut [u16],
-) -> Decision
-    requires n_le_width { (n ≤ width) × Table n k cells.now × Coded n (held k cells.now) layout whole.now last.now }
-    requires method_value { (method ≡ method_of (formula_in batch n k cells.now)) × (k ≤ length list.old) }
-    ensures { Leaves (sift (plan_in layout) budget (formula_in batch n k cells.now) k []) list.old
+// After the run without clause i: a clear keeps the clause, a none leaves it out, and anything else
+// ends the work.
+fn turn(rest: Decision, i: usize, kept: &mut Kept) -> Result<(), Decision>
+    requires { (i < clause_limit) × (length kept.old < clause_limit) }
+    ensures { MatchResult result
+        (λ _. Onward (verdict_in rest.verdict) i kept.old kept.new)
+        (λ d. (d ≡ rest) × Ends (verdict_in rest.verdict)) }
+{
+    match rest.verdict {
+        Verdict::None(_) => Ok(()),
+        Verdict::Clear(_, _) => {
+            kept.put(i);
+            Ok(())
+        }
+        Verdict::Spent(_) => Err(rest),
+        Verdict::Refused(_) => Err(rest),
+    }
+}
+
+// Goes through the clauses of a sheet from last to first: the numbers kept, or the decision of a run
+// that is spent.
+fn sift(sheet: &Sheet, codes: &Codes, budget: u32) -> Result<Kept, Decision>
+    requires { Coded (formula_of sheet.now) codes.now }
+    ensures sifted { sifted_in (formula_of sheet.now) result ≡
+        sift (plan_in codes.now.plan) budget (formula_of sheet.now) sheet.now.count [] }
+    ensures few { IfOk result (λ kept. length kept ≤ sheet.now.count) }
+{
+    let mut trial = Sheet {
+        batch: sheet.batch,
+        n: sheet.n,
+        count: sheet.count,
+        cells: sheet.cells,
+    };
+    let mut kept = Kept::none();
+    for i in (0..sheet.count).rev() {
+        put_rest(sheet, i, &kept, &mut trial);
+        let rest = decide_laid(&trial, codes, budget);
+        turn(rest, i, &mut kept)?;
+    }
+    Ok(kept)
+}
+
+// The core of a sheet of which a run has said none, by its method: the numbers kept go to the list.
+fn core_of(sheet: &Sheet, method: Method, codes: &Codes, budget: u32, list: &mut [u16]) -> Decision
+    requires coded { Coded (formula_of sheet.now) codes.now }
+    requires method_value { (method ≡ method_of (formula_of sheet.now)) × (sheet.now.count ≤ length list.old) }
+    ensures { Leaves (sift (plan_in codes.now.plan) budget (formula_of sheet.now) sheet.now.count []) list.old
         (decision_in result) list.new }
 {
-    let mut numbers = no_numbers();
-    match sift(
-        cells,
-        batch,
-        n,
-        k,
-        layout,
-        whole,
-        last,
-        budget,
-        &mut numbers,
-    ) {
-        Sifted::Kept(at) => {
-            store(&numbers, at, list);
+    match sift(sheet, codes, budget) {
+        Ok(kept) => {
+            let count = kept.store(list);
             Decision {
-                batch,
+                batch: sheet.batch,
                 method,
-                verdict: Verdict::None((CLAUSES - at) as u32),
+                verdict: Verdict::None(count as u32),
             }
         }
-        Sifted::Stopped(rest) => rest,
+        Err(rest) => rest,
     }
 }
 
-// All k clauses are run first, and only a none is gone into.
-fn core_table(
-    cells: &[u32; CELLS],
-    batch: u32,
-    n: u32,
-    k: usize,
+// The whole sheet is run first, and only a none is gone into.
+fn core_sheet(sheet: &Sheet, plan: Plan, budget: u32, list: &mut [u16]) -> Decision
+    requires { sheet.now.count ≤ length list.old }
+    ensures { Leaves (deletion (plan_in plan) budget (formula_of sheet.now)) list.old
+        (decision_in result) list.new }
+{
+    let mut codes = Codes::empty(plan);
+    lay_out(sheet, &mut codes);
+    let all = decide_laid(sheet, &codes, budget);
+    let Verdict::None(_) = all.verdict else {
+        return all;
+    };
+    core_of(sheet, all.method, &codes, budget, list)
+}
+
+// What deletion comes to, or the first refusal: the plan's, then the sheet's, then that of a list with
+// fewer cells than there are clauses.
+fn accepted(
     size: u32,
     radius: u32,
     budget: u32,
+    bytes: &[u8],
     list: &mut [u16],
-) -> Decision
-    requires n_le_width { (n ≤ width) × Table n k cells.now × (k ≤ length list.old) }
-    requires le_size { (1 ≤ size) × (size ≤ 12) × (radius ≤ size) }
-    ensures { Leaves (deletion (plan size radius) budget (formula_in batch n k cells.now)) list.old
-        (decision_in result) list.new }
+) -> Result<Decision, Refused>
+    ensures { Leaves (core_to (plan size radius) budget bytes.now (length list.old)) list.old
+        (outcome_in result) list.new }
 {
-    let mut whole = search::code_cells();
-    let mut last = search::code_cells();
-    let layout = codes_for(cells, n, k, size, radius, &mut whole, &mut last);
-    let all = decide_laid(cells, batch, n, k, layout, &whole, &last, budget);
-    let verdict = all.verdict;
-    let method = all.method;
-    match verdict {
-        Verdict::None(_) => core_of(
-            cells, batch, n, k, method, layout, &whole, &last, budget, list,
-        ),
-        Verdict::Clear(_, _) => all,
-        Verdict::Spent(_) => all,
-        Verdict::Refused(_) => all,
+    let plan = Plan::new(size, radius)?;
+    let mut sheet = Sheet::empty();
+    sheet.read(bytes)?;
+    if list.len() < sheet.count {
+        return Err(Reason::ShortList.at(0));
     }
+    Ok(core_sheet(&sheet, plan, budget, list))
 }
 
 // The core of a sheet by a plan and a budget, its clauses' numbers in a list.
@@ -144,25 +136,5 @@ pub fn find_core(size: u32, radius: u32, budget: u32, sheet: &[u8], list: &mut [
     ensures { Leaves (core_to (plan size radius) budget sheet.now (length list.old)) list.old
         (decision_in result) list.new }
 {
-    if !code::coded(size, radius) {
-        let refusal = Refusal {
-            number: code::BAD_PLAN,
-            place: 0,
-        };
-        return refused(refusal);
-    }
-    let short = Refusal {
-        number: SHORT_LIST,
-        place: 0,
-    };
-    let mut table = formula::empty_table();
-    match formula::read_sheet(sheet, &mut table) {
-        Reading::Accepted { batch, n, clauses } => {
-            if list.len() < clauses {
-                return refused(short);
-            }
-            core_table(&table, batch, n, clauses, size, radius, budget, list)
-        }
-        Reading::Refused(refusal) => refused(refusal),
-    }
+    accepted(size, radius, budget, sheet, list).unwrap_or_else(refused)
 }

@@ -7,8 +7,7 @@ use Rattle.formula.specs.Formula.{Formula, all_true}
 use Rattle.formula.specs.Sheet.{Result, accepted, refused, parse}
 use Rattle.formula.specs.Refusals.{Reason}
 use Rattle.formula.proofs.ParseRefused.{parse_refused}
-use Rattle.alike.specs.declared.Comparison.TheVariants.{Alike, Different}
-use Rattle.alike.specs.Alike.{alike, compared, comparison, FIRST, SECOND}
+use Rattle.alike.specs.Alike.{alike, are_alike as told_alike, are_different as told_different, compared, comparison, FIRST, SECOND}
 use Rattle.alike.proofs.AlikeLaws.{alike_refl, alike_sym, alike_trans, alike_models}
 use Rattle.engine.specs.declared.exports.AlikeReply.{AlikeReply}
 use Rattle.decision.specs.Answers.{REFUSED}
@@ -32,7 +31,7 @@ unfolding alike_to comparison
 alike_answered s t = by_sheets (parse s) (parse t) refl refl
   where
     by_test : (f g : Formula) → parse s ≡ accepted f → parse t ≡ accepted g → (b : Bool) → alike f g ≡ b →
-        AlikeAnswered s t (comparison_of (cond b Alike Different))
+        AlikeAnswered s t (comparison_of (cond b told_alike told_different))
     by_test f g p q true e = unfold comparison_of in are_alike p q e
     by_test f g p q false e = unfold comparison_of in are_different p q e
 

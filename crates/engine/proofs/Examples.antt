@@ -10,12 +10,10 @@ use Rattle.formula.specs.Formula.{Literal, Clause, Formula}
 use Rattle.formula.specs.Sheet as Sheet
 use Rattle.formula.specs.Sets as Sets
 use Rattle.formula.specs.Sheet.{encode}
-use Rattle.code.specs.declared.Answer.{Answer}
-use Rattle.code.specs.declared.Answer.TheVariants.{Number, Refused}
 use Rattle.code.specs.Code as Code
 use Rattle.code.specs.Volume as Volume
 use Rattle.code.specs.Operations as Operations
-use Rattle.code.specs.Operations.{code_answer, code_table, volume_answer, floor_answer}
+use Rattle.code.specs.Operations.{Answer, given, declined, code_answer, code_table, volume_answer, floor_answer}
 use Rattle.tree.specs.Explore as Explore
 use Rattle.tree.specs.Budget as Budget
 use Rattle.tree.specs.Legs as Balls
@@ -61,13 +59,13 @@ leg_numbers e =
     r.verdict ∷ r.batch ∷ r.road ∷ r.marks0 ∷ r.marks1 ∷ r.marks2 ∷ r.marks3 ∷ r.calls ∷ r.number ∷ r.place ∷ r.sheet ∷ e.checkpoint.next ∷ []
 
 answer_numbers : Answer → List ℕ
-answer_numbers (Number n) = n ∷ []
-answer_numbers (Refused r) = r.number ∷ r.place ∷ []
+answer_numbers (given n) = n ∷ []
+answer_numbers (declined n p) = n ∷ p ∷ []
 
 -- the words of a code that was written to a table of zeros
 words_in : Answer → List ℕ → List ℕ
-words_in (Number n) table = take n table
-words_in (Refused r) table = []
+words_in (given n) table = take n table
+words_in (declined n p) table = []
 
 -- The library's answer, in numbers: of a code its words.
 pub ask : Question → List ℕ

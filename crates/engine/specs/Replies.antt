@@ -3,11 +3,8 @@
 use Rattle.std.specs.Prelude.{◌≡◌, List, [], ℕ, get_or}
 use Rattle.formula.specs.Formula.{Formula}
 use Rattle.formula.specs.Sheet.{Result, accepted, refused, parse}
-use Rattle.code.specs.declared.Answer.{Answer}
-use Rattle.code.specs.declared.Answer.TheVariants.{Number, Refused}
-use Rattle.alike.specs.declared.Comparison.{Comparison}
-use Rattle.alike.specs.declared.Comparison.TheVariants.{Alike, Different, Refused as Declined}
-use Rattle.alike.specs.Alike.{comparison}
+use Rattle.code.specs.Operations.{Answer, given, declined}
+use Rattle.alike.specs.Alike.{Comparison, are_alike, are_different, declined as one_declined, comparison}
 use Rattle.ball.specs.Ball.{State, reading}
 use Rattle.tally.specs.Tally.{Tally, left}
 use Rattle.engine.specs.declared.exports.NumberReply.{NumberReply}
@@ -20,8 +17,8 @@ use Rattle.decision.specs.Answers.{REFUSED}
 
 -- The number asked for, or the refusal.
 unfoldable pub result_of : Answer → NumberReply
-result_of (Number n) = record { result = n; number = 0; place = 0 }
-result_of (Refused r) = record { result = 0; number = r.number; place = r.place }
+result_of (given n) = record { result = n; number = 0; place = 0 }
+result_of (declined n p) = record { result = 0; number = n; place = p }
 
 -- ---- two sheets
 
@@ -33,9 +30,9 @@ DIFFERENT = 2
 
 -- A refusal says which sheet it is about.
 unfoldable pub comparison_of : Comparison → AlikeReply
-comparison_of Alike = record { answer = ALIKE; sheet = 0; number = 0; place = 0 }
-comparison_of Different = record { answer = DIFFERENT; sheet = 0; number = 0; place = 0 }
-comparison_of (Declined sheet refusal) = record { answer = REFUSED; sheet = sheet; number = refusal.number; place = refusal.place }
+comparison_of are_alike = record { answer = ALIKE; sheet = 0; number = 0; place = 0 }
+comparison_of are_different = record { answer = DIFFERENT; sheet = 0; number = 0; place = 0 }
+comparison_of (one_declined sheet number place) = record { answer = REFUSED; sheet = sheet; number = number; place = place }
 
 -- What `alike` gives.
 unfoldable pub alike_to : List ℕ → List ℕ → AlikeReply

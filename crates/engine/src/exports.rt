@@ -1,17 +1,17 @@
 // The operations on codes, on two sheets, on a clause and on a tally, as engine_c exports them to a
 // host in C: the answers of the crates code, alike, ball and tally, in numbers.
 ghost use Rattle.std.specs.Prelude.{◌≡◌, cond};
+ghost use Rattle.alike.specs.Machine.{comparison_in};
+ghost use Rattle.code.specs.Machine.{answer_in};
 ghost use Rattle.code.specs.Operations.{code_answer, code_table, volume_answer, floor_answer};
 ghost use Rattle.tally.specs.Tally.{tally_begin, tally_toggle, tally_holds, tally_in};
 ghost use Rattle.engine.specs.Replies.{result_of, comparison_of, alike_to, clause_counts_to, TallyMade};
 ghost use Rattle.engine.specs.Machine.{outcome_reply};
 ghost use Rattle.words.specs.Bits.{from_words};
 
-use alike::Comparison;
-use code::Answer;
-use formula::Reading;
-use tally::Outcome;
-use words::Assignment;
+use alike::Declined;
+use formula::Sheet;
+use words::{Assignment, Refused};
 
 // The answer's number in a reply (specs/Replies.antt); a refusal's is that of `run`.
 pub const ALIKE: u32 = 1;
@@ -55,20 +55,23 @@ pub struct TallyReply {
     pub place: u32,
 }
 
-fn in_numbers(answer: Answer) -> NumberReply
-    ensures { result ≡ result_of answer }
-{
-    match answer {
-        Answer::Number(result) => NumberReply {
-            result,
-            number: 0,
-            place: 0,
-        },
-        Answer::Refused(refusal) => NumberReply {
-            result: 0,
-            number: refusal.number,
-            place: refusal.place,
-        },
+impl From<Result<u32, Refused>> for NumberReply {
+    ghost from_gives = { λ answer reply. reply ≡ result_of (answer_in answer) };
+
+    #[tactic(auto, unfolding(crate::specs::Replies::result_of))]
+    fn from(answer: Result<u32, Refused>) -> NumberReply {
+        match answer {
+            Ok(result) => NumberReply {
+                result,
+                number: 0,
+                place: 0,
+            },
+            Err(refused) => NumberReply {
+                result: 0,
+                number: refused.reason.number(),
+                place: refused.place,
+            },
+        }
     }
 }
 
@@ -76,50 +79,46 @@ pub fn covering_code(t: u32, s: u32, table: &mut [u16]) -> NumberReply
     ensures answer { result ≡ result_of (code_answer t s table.old) }
     ensures cells { table.new ≡ code_table t s table.old }
 {
-    in_numbers(code::code(t, s, table))
+    NumberReply::from(code::code(t, s, table))
 }
 
 pub fn ball_volume(t: u32, s: u32) -> NumberReply
     ensures { result ≡ result_of (volume_answer t s) }
 {
-    in_numbers(code::volume(t, s))
+    NumberReply::from(code::volume(t, s))
 }
 
 pub fn covering_floor(t: u32, s: u32) -> NumberReply
     ensures { result ≡ result_of (floor_answer t s) }
 {
-    in_numbers(code::floor(t, s))
+    NumberReply::from(code::floor(t, s))
 }
 
-fn compared(of: Comparison) -> AlikeReply
-    ensures { result ≡ comparison_of of }
-{
-    match of {
-        Comparison::Alike => AlikeReply {
-            answer: ALIKE,
-            sheet: 0,
-            number: 0,
-            place: 0,
-        },
-        Comparison::Different => AlikeReply {
-            answer: DIFFERENT,
-            sheet: 0,
-            number: 0,
-            place: 0,
-        },
-        Comparison::Refused { sheet, refusal } => AlikeReply {
-            answer: decision::REFUSED,
-            sheet,
-            number: refusal.number,
-            place: refusal.place,
-        },
+impl From<Result<bool, Declined>> for AlikeReply {
+    ghost from_gives = { λ answer reply. reply ≡ comparison_of (comparison_in answer) };
+
+    fn from(answer: Result<bool, Declined>) -> AlikeReply {
+        match answer {
+            Ok(same) => AlikeReply {
+                answer: if same { ALIKE } else { DIFFERENT },
+                sheet: 0,
+                number: 0,
+                place: 0,
+            },
+            Err(declined) => AlikeReply {
+                answer: decision::Ending::Refused as u32,
+                sheet: declined.sheet.number(),
+                number: declined.refused.reason.number(),
+                place: declined.refused.place,
+            },
+        }
     }
 }
 
 pub fn alike(first: &[u8], second: &[u8]) -> AlikeReply
     ensures { result ≡ alike_to first.now second.now }
 {
-    compared(alike::compare(first, second))
+    AlikeReply::from(alike::compare(first, second))
 }
 
 pub fn clause_counts(
@@ -131,12 +130,13 @@ pub fn clause_counts(
     ensures { result ≡ clause_counts_to sheet.now clause
         (record { assignment = from_words marks.now; flipped = from_words flipped.now }) }
 {
-    let mut table = formula::empty_table();
-    match formula::read_sheet(sheet, &mut table) {
-        Reading::Accepted { batch, n, clauses } => {
+    let mut held = Sheet::empty();
+    match held.read(sheet) {
+        Ok(()) => {
             let assignment = Assignment::from_words(marks);
             let set = Assignment::from_words(flipped);
-            let reading = ball::clause_reading(&table, clauses, clause as usize, assignment, set);
+            let at = clause as usize;
+            let reading = ball::clause_reading(&held, at, assignment, set);
             CountsReply {
                 met: reading.met,
                 open: reading.open,
@@ -144,27 +144,30 @@ pub fn clause_counts(
                 place: 0,
             }
         }
-        Reading::Refused(refusal) => CountsReply {
+        Err(refused) => CountsReply {
             met: 0,
             open: 0,
-            number: refusal.number,
-            place: refusal.place,
+            number: refused.reason.number(),
+            place: refused.place,
         },
     }
 }
 
-fn tally_reply(outcome: Outcome) -> TallyReply
-    ensures { result ≡ outcome_reply outcome }
-{
-    match outcome {
-        Outcome::Done => TallyReply {
-            number: 0,
-            place: 0,
-        },
-        Outcome::Refused(refusal) => TallyReply {
-            number: refusal.number,
-            place: refusal.place,
-        },
+impl From<Result<(), Refused>> for TallyReply {
+    ghost from_gives = { λ outcome reply. reply ≡ outcome_reply outcome };
+
+    #[tactic(auto, unfolding(crate::specs::Machine::outcome_reply))]
+    fn from(outcome: Result<(), Refused>) -> TallyReply {
+        match outcome {
+            Ok(()) => TallyReply {
+                number: 0,
+                place: 0,
+            },
+            Err(refused) => TallyReply {
+                number: refused.reason.number(),
+                place: refused.place,
+            },
+        }
     }
 }
 
@@ -178,7 +181,7 @@ pub fn tally_begin(
         (tally_in marks.old met.old unmet.old)
         result (tally_in marks.new met.new unmet.new) }
 {
-    tally_reply(tally::begin(sheet, marks, met, unmet))
+    TallyReply::from(tally::begin(sheet, marks, met, unmet))
 }
 
 pub fn tally_toggle(
@@ -192,7 +195,7 @@ pub fn tally_toggle(
         (tally_in marks.old met.old unmet.old)
         result (tally_in marks.new met.new unmet.new) }
 {
-    tally_reply(tally::toggle(sheet, variable, marks, met, unmet))
+    TallyReply::from(tally::toggle(sheet, variable, marks, met, unmet))
 }
 
 pub fn tally_holds(unmet: u32) -> u32

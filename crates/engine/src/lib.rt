@@ -10,7 +10,7 @@ ghost use Rattle.decision.specs.Answers.{reply_to, split_to};
 ghost use Rattle.deletion.specs.Core.{core_to, clash_to, list_after};
 ghost use Rattle.legs.specs.Legs.{takes, alone, grown};
 
-use decision::{Reply, decide, decide_by_splitting, numbers};
+use decision::{Reply, decide, decide_by_splitting};
 pub use exports::{
     AlikeReply, CountsReply, NumberReply, TallyReply, alike, ball_volume, clause_counts,
     covering_code, covering_floor, tally_begin, tally_holds, tally_toggle,
@@ -21,14 +21,14 @@ use legs::{Checkpoint, LegReply, leg_by_value, leg_longer_by_value};
 pub fn run(size: u32, radius: u32, budget: u32, sheet: &[u8]) -> Reply
     ensures { result ≡ reply_to (plan size radius) budget sheet.now }
 {
-    numbers(decide(size, radius, budget, sheet))
+    Reply::from(decide(size, radius, budget, sheet))
 }
 
 // `decide_by_splitting` in numbers.
 pub fn split(budget: u32, sheet: &[u8]) -> Reply
     ensures { result ≡ split_to budget sheet.now }
 {
-    numbers(decide_by_splitting(budget, sheet))
+    Reply::from(decide_by_splitting(budget, sheet))
 }
 
 // `find_core` in numbers.
@@ -37,7 +37,7 @@ pub fn clash(size: u32, radius: u32, budget: u32, sheet: &[u8], list: &mut [u16]
     ensures cells { list.new ≡
         list_after (core_to (plan size radius) budget sheet.now (length list.old)).kept list.old }
 {
-    numbers(deletion::find_core(size, radius, budget, sheet, list))
+    Reply::from(deletion::find_core(size, radius, budget, sheet, list))
 }
 
 // A leg for a host, which lends the record and finds it moved on.

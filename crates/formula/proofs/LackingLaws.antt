@@ -1,39 +1,31 @@
 -- Laws of the first clause that another list of clauses lacks (02, paper 12): there is none where all stand there, and only then; which one
 -- it is, and its place; and the steps of the loop that finds it.
-use Rattle.std.specs.Prelude.{◌≡◌, refl, Bool, true, false, List, [], ◌∷◌, ◌++◌, ℕ, suc, ◌+◌, length, drop}
+use Rattle.std.specs.Prelude.{◌≡◌, refl, Bool, true, false, List, [], ◌∷◌, ◌++◌, ℕ, suc, ◌+◌, length, drop, Option, Some, None, is_none}
 use Rattle.std.proofs.Common.{sym, ap, ◌∙◌, true≢false, add-zero, add_assoc, arith, length-append}
 use Rattle.std.proofs.Math.Numerals.{add-one}
 use Rattle.words.specs.Lists.{some, every}
-use Rattle.formula.specs.declared.sets.Lacking.{Lacking}
-use Rattle.formula.specs.declared.sets.Lacking.TheVariants.{Nothing, At}
 use Rattle.formula.specs.Formula.{Clause}
 use Rattle.formula.specs.Sheet.{clause_words, header_words}
 use Rattle.formula.proofs.ParseEncode.{length_literal_words}
 use Rattle.formula.specs.Sets.{same_set, stands, first_lacking}
 
--- whether no clause is lacking
-unfoldable pub lacks_none : Lacking → Bool
-lacks_none Nothing = true
-lacks_none (At place) = false
-
-pub lacking_stands : (place : ℕ) (cs ds : List Clause) → lacks_none (first_lacking place cs ds) ≡ stands cs ds
-unfolding lacks_none first_lacking stands every
+pub lacking_stands : (place : ℕ) (cs ds : List Clause) → is_none (first_lacking place cs ds) ≡ stands cs ds
+unfolding first_lacking stands every
 lacking_stands place [] ds = refl
 lacking_stands place (c ∷ cs) ds = go (lacking_stands (place + 1 + length c) cs ds) (some (same_set c) ds) refl
   where
-    go : lacks_none (first_lacking (place + 1 + length c) cs ds) ≡ stands cs ds → (b : Bool) → some (same_set c) ds ≡ b →
-        lacks_none (first_lacking place (c ∷ cs) ds) ≡ stands (c ∷ cs) ds
+    go : is_none (first_lacking (place + 1 + length c) cs ds) ≡ stands cs ds → (b : Bool) → some (same_set c) ds ≡ b →
+        is_none (first_lacking place (c ∷ cs) ds) ≡ stands (c ∷ cs) ds
     go rest true e = rw e rest
     go rest false e = rw e
 
 -- Where all stand none is lacking.
-pub stands_lacking : (place : ℕ) (cs ds : List Clause) → stands cs ds ≡ true → first_lacking place cs ds ≡ Nothing
-unfolding lacks_none
+pub stands_lacking : (place : ℕ) (cs ds : List Clause) → stands cs ds ≡ true → first_lacking place cs ds ≡ None
 stands_lacking place cs ds st = go (first_lacking place cs ds) (lacking_stands place cs ds ∙ st)
   where
-    go : (x : Lacking) → lacks_none x ≡ true → x ≡ Nothing
-    go Nothing e = refl
-    go (At q) e = absurd (true≢false (sym e))
+    go : (x : Option ℕ) → is_none x ≡ true → x ≡ None
+    go None e = refl
+    go (Some q) e = absurd (true≢false (sym e))
 
 -- ---- which clause it is
 
@@ -47,20 +39,20 @@ pub record Lacks (cs ds : List Clause) : Type 0 where
   pub lacks : some (same_set clause) ds ≡ false
 
 -- It is at the place that follows the words of the clauses before it.
-pub lacking_at : (place : ℕ) (cs ds : List Clause) (q : ℕ) → first_lacking place cs ds ≡ At q →
+pub lacking_at : (place : ℕ) (cs ds : List Clause) (q : ℕ) → first_lacking place cs ds ≡ Some q →
     (h : Lacks cs ds) × (q ≡ place + length (clause_words h.before))
-unfolding first_lacking lacks_none clause_words stands every
-lacking_at place [] ds q e = absurd (true≢false (ap lacks_none e))
+unfolding first_lacking clause_words stands every
+lacking_at place [] ds q e = absurd (true≢false (ap is_none e))
 lacking_at place (c ∷ cs) ds q e = go (lacking_at (place + 1 + length c) cs ds q) (some (same_set c) ds) refl e
   where
-    found : {x : Lacking} → x ≡ At place → x ≡ At q → q ≡ place
+    found : {x : Option ℕ} → x ≡ Some place → x ≡ Some q → q ≡ place
     found h e = cc
 
     words : (before : List Clause) → place + 1 + length c + length (clause_words before) ≡ place + length (clause_words (c ∷ before))
     words before = rw (length-append, length_literal_words c) (omega arith)
 
-    go : (first_lacking (place + 1 + length c) cs ds ≡ At q → (h : Lacks cs ds) × (q ≡ place + 1 + length c + length (clause_words h.before))) →
-        (b : Bool) → some (same_set c) ds ≡ b → first_lacking place (c ∷ cs) ds ≡ At q →
+    go : (first_lacking (place + 1 + length c) cs ds ≡ Some q → (h : Lacks cs ds) × (q ≡ place + 1 + length c + length (clause_words h.before))) →
+        (b : Bool) → some (same_set c) ds ≡ b → first_lacking place (c ∷ cs) ds ≡ Some q →
         (h : Lacks (c ∷ cs) ds) × (q ≡ place + length (clause_words h.before))
     go rest true h e =
         let (x, at) = rest (rw h at e) in (
@@ -80,7 +72,7 @@ lacking_at place (c ∷ cs) ds q e = go (lacking_at (place + 1 + length c) cs ds
 -- ---- step by step
 
 module _ (cs ds : List Clause) (place i : ℕ) (left : first_lacking place (drop i cs) ds ≡ first_lacking header_words cs ds) where
-  pub lacking_found : {c : Clause} → drop i cs ≡ c ∷ drop (suc i) cs → some (same_set c) ds ≡ false → At place ≡ first_lacking header_words cs ds
+  pub lacking_found : {c : Clause} → drop i cs ≡ c ∷ drop (suc i) cs → some (same_set c) ds ≡ false → Some place ≡ first_lacking header_words cs ds
   unfolding first_lacking
   lacking_found here e = (rw (here, e)) ∙ left
 
@@ -89,6 +81,6 @@ module _ (cs ds : List Clause) (place i : ℕ) (left : first_lacking place (drop
   unfolding first_lacking
   lacking_next {c} here e len size = (rw (here, e, add-one, ← size, ← add_assoc)) ∙ left
 
-  pub lacking_none : drop i cs ≡ [] → Nothing ≡ first_lacking header_words cs ds
+  pub lacking_none : drop i cs ≡ [] → None ≡ first_lacking header_words cs ds
   unfolding first_lacking
   lacking_none end = (rw end) ∙ left

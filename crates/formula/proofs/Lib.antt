@@ -17,5 +17,4 @@ pub mod ResultLaws
 pub mod WordLaws
 pub mod LiteralsLaws
 pub mod ClausesLaws
-pub mod ReadingLaws
 pub mod WholeLaws

@@ -1,8 +1,9 @@
 -- Laws of masks: their bits, that the same sets have the same masks, and the steps of the loops that make and store them.
-use Rattle.std.specs.Prelude.{◌≡◌, refl, Bool, true, false, ◌||◌, List, [], ◌∷◌, ℕ, suc, ◌+◌, ◌*◌, ◌%◌, ◌^◌, ◌<◌, eqb, length, get_or, set, drop}
-use Rattle.std.proofs.Common.{sym, ap, ◌∙◌, one-mul, add-one, arith, lit<, length-set, pow_pos, shl_exact, get_or-set_same, get_or-set_other, eqb-true}
+use Rattle.std.specs.Prelude.{◌≡◌, refl, Bool, true, false, ◌||◌, List, [], ◌∷◌, map, ℕ, ◌+◌, ◌*◌, ◌%◌, ◌^◌, ◌<◌, eqb, length, get_or, set}
+use Rattle.std.proofs.Common.{sym, ap, ◌∙◌, one-mul, arith, lit<, length-set, pow_pos, shl_exact, get_or-set_same, get_or-set_other, eqb-true}
 use Rattle.std.proofs.Math.Bool.{or-false}
 use Rattle.std.specs.Int.Bits.{bit_or}
+use Rattle.std.specs.List.{fold}
 use Rattle.std.proofs.lemmas.Nat.{or_lt}
 use Rattle.std.proofs.Math.Pow.{pow-lt}
 use Rattle.std.proofs.lemmas.Bool.{eqb-false}
@@ -45,38 +46,48 @@ mask_same c d same =
 pub mask_differs : (c d : Clause) → (mask_of c ≡ mask_of d → ⊥) → same_set c d ≡ false
 mask_differs c d n = refute (same_set c d) (λ e. n (mask_same c d e))
 
--- ---- literal by literal
+-- ---- by words
 
 or_assoc : (a b c : Bool) → ((a || b) || c) ≡ (a || (b || c))
 or_assoc true b c = refl
 or_assoc false b c = refl
 
--- The bits so far are those of the literals before j.
-pub record Marked (c : Clause) (bits j : ℕ) : Type 0 where
-  pub size : bits < 2 ^ mask_bits
-  pub each : (v : ℕ) → (bit bits v || some (Marks v) (drop j c)) ≡ some (Marks v) c
+-- the bits so far with that of one more word
+abbrev pub marked : ℕ → ℕ → ℕ
+marked bits w = bit_or bits (2 ^ (w % mask_bits))
 
-pub marked_none : (c : Clause) → Marked c 0 0
-marked_none c = record { size = pow_pos mask_bits; each = λ v. rw (bit_zero v) refl }
+marked_lt : (bits w : ℕ) → bits < 2 ^ mask_bits → marked bits w < 2 ^ mask_bits
+marked_lt bits w h = let inside : w % mask_bits < mask_bits = omega arith in or_lt mask_bits bits _ h (pow-lt inside)
 
-pub marked_next : (c : Clause) (bits j : ℕ) → Marked c bits j → {l : Literal} → drop j c ≡ l ∷ drop (suc j) c → (x : ℕ) → x ≡ 2 ^ (literal_word l % mask_bits) →
-    Marked c (bit_or bits x) (j + 1)
-unfolding some
-marked_next c bits j m {l} here x is =
-    let inside : literal_word l % mask_bits < mask_bits = omega arith in
-    record {
-      size = or_lt mask_bits bits x m.size (rw is (pow-lt inside));
-      each = λ v. rw (bit-bit_or, is, bit_power, add-one) (or_assoc (bit bits v) (Marks v l) _ ∙ rw here at (m.each v));
-    }
+mask_from : (bits : ℕ) (ws : List ℕ) → bits < 2 ^ mask_bits → fold marked bits ws ≡ bit_or bits (mask_of (map literal_of ws))
+unfolding mask_of
+mask_from bits [] h =
+    bits_ext mask_bits _ _ h (or_lt mask_bits bits 0 h (pow_pos mask_bits)) (λ v l. sym (rw (bit-bit_or, bit_zero v) (or-false (bit bits v))))
+mask_from bits (w ∷ ws) h =
+    let own = 2 ^ (literal_word (literal_of w) % mask_bits) in
+    let rest = mask_of (map literal_of ws) in
+    let inside : literal_word (literal_of w) % mask_bits < mask_bits = omega arith in
+    let both = or_lt mask_bits own rest (pow-lt inside) (mask_lt (map literal_of ws)) in
+    mask_from (marked bits w) ws (marked_lt bits w h)
+    ∙ ap (λ (x : ℕ). bit_or (bit_or bits (2 ^ (x % mask_bits))) rest) (sym (word_literal w))
+    ∙ bits_ext mask_bits _ _ (or_lt mask_bits _ rest (or_lt mask_bits bits own h (pow-lt inside)) (mask_lt (map literal_of ws)))
+    (or_lt mask_bits bits _ h both)
+    (λ v l. rw (bit-bit_or, bit-bit_or, bit-bit_or, bit-bit_or) (or_assoc (bit bits v) (bit own v) (bit rest v)))
 
-pub marked_all : (c : Clause) (bits j : ℕ) → Marked c bits j → drop j c ≡ [] → bits ≡ mask_of c
-unfolding some
-marked_all c bits j m end =
-    bits_ext mask_bits bits (mask_of c) m.size (mask_lt c) (λ v l. sym (or-false (bit bits v)) ∙ rw end at (m.each v) ∙ sym (mask_bit c v))
+-- A clause's mask is folded from its words.
+pub mask_words : (ws : List ℕ) → fold marked 0 ws ≡ mask_of (map literal_of ws)
+mask_words ws =
+    mask_from 0 ws (pow_pos mask_bits)
+    ∙ bits_ext mask_bits _ _ (or_lt mask_bits 0 _ (pow_pos mask_bits) (mask_lt (map literal_of ws))) (mask_lt (map literal_of ws))
+    (λ v l. rw (bit-bit_or, bit_zero v) refl)
 
--- the bit of a literal's word
-pub mark_of : (w v : ℕ) → w ≡ v → 1 * 2 ^ (w % mask_bits) % 2 ^ mask_bits ≡ 2 ^ (literal_word (literal_of v) % mask_bits)
-mark_of w v e = shl_exact 1 (w % mask_bits) mask_bits (lit< tt) (omega arith) ∙ one-mul _ ∙ ap (λ (x : ℕ). 2 ^ (x % mask_bits)) (e ∙ sym (word_literal v))
+-- a word's bit, as the machine shifts it
+pub mark_of : (w : ℕ) → 1 * 2 ^ (w % mask_bits) % 2 ^ mask_bits ≡ 2 ^ (w % mask_bits)
+mark_of w = shl_exact 1 (w % mask_bits) mask_bits (lit< tt) (omega arith) ∙ one-mul _
+
+pub shifted_words : (bits : ℕ) (ws : List ℕ) → fold (λ b w. bit_or b (1 * 2 ^ (w % mask_bits) % 2 ^ mask_bits)) bits ws ≡ fold marked bits ws
+shifted_words bits [] = refl
+shifted_words bits (w ∷ ws) = rw (mark_of w) (shifted_words (marked bits w) ws)
 
 -- ---- clause by clause
 

@@ -1,11 +1,12 @@
 -- Laws of clauses as sets: what the tests mean by membership alone; that further clauses take models away and bring none;
 -- and that having the same clauses is an equivalence and keeps the models.
-use Rattle.std.specs.Prelude.{◌≡◌, refl, ◌↔◌, ◌⊎◌, Bool, true, false, not, List, [], ◌∷◌, ℕ, ◌≤◌, ◌<◌, eqb, length}
+use Rattle.std.specs.Prelude.{◌≡◌, refl, ◌↔◌, ◌⊎◌, Bool, true, false, not, List, [], ◌∷◌, map, ℕ, ◌≤◌, ◌<◌, eqb, length}
 use Rattle.std.proofs.Common.{sym, ap, ◌∙◌, inl, inr, true≢false, arith, eq-eqb, eqb-true}
 use Rattle.std.specs.Bool.{beq}
+use Rattle.std.specs.List.{list_any, list_all}
 use mathlib.Core.List.Memᴰ
 use Rattle.std.proofs.lemmas.Bool.{not-true}
-use Rattle.words.specs.Lists.{In, some, keep}
+use Rattle.words.specs.Lists.{In, some, every, keep}
 use Rattle.words.proofs.ListLaws.{every_in, in_every, some_in, in_some, in_keep, length_keep, and_left, and_right, and_both, refute, beq_true, both_ways}
 use Rattle.formula.specs.Formula.{Literal, Clause, met, some_met, all_true, names, once, literal_word, literal_of}
 use Rattle.formula.proofs.ParseAccepted.{word_literal}
@@ -154,3 +155,20 @@ pub same_clauses_models : (cs ds : List Clause) → same_clauses cs ds ≡ true 
 same_clauses_models cs ds e m =
     let h = (same_clauses_stands cs ds).0 e in
     both_ways (all_true m cs) (all_true m ds) (stands_model ds cs h.1 m) (stands_model cs ds h.0 m)
+
+-- ---- by words
+
+eqb_swap : (a b : ℕ) → eqb a b ≡ eqb b a
+eqb_swap a b = both_ways (eqb a b) (eqb b a) (λ e. eq-eqb b a (sym (eqb-true a b e))) (λ e. eq-eqb a b (sym (eqb-true b a e)))
+
+-- A word stands in a list of words just where its literal stands among theirs,
+pub any_stands : (w : ℕ) (vs : List ℕ) → list_any (λ v. eqb v w) vs ≡ some (same_literal (literal_of w)) (map literal_of vs)
+unfolding some
+any_stands w [] = refl
+any_stands w (v ∷ vs) = rw (same_literal_words w v, eqb_swap w v, any_stands w vs) refl
+
+-- and all of one stand in another just where the clause is within the other.
+pub words_within : (ws : List ℕ) (d : Clause) → list_all (λ w. some (same_literal (literal_of w)) d) ws ≡ within (map literal_of ws) d
+unfolding within every
+words_within [] d = refl
+words_within (w ∷ ws) d = rw (words_within ws d) refl

@@ -9,6 +9,7 @@ use Rattle.std.proofs.Math.Nat.{div-div-eq-div-mul}
 use Rattle.words.specs.Lists.{In}
 use Rattle.words.proofs.ListLaws.{apart, some_last}
 use Rattle.formula.specs.Formula.{Literal, Clause, names}
+use Rattle.std.specs.Int.{w32, from_le_bytes}
 use Rattle.formula.specs.Sheet.{Result, accepted, refused, ◌>>=◌, ◌>>◌, refuse_when, word_of, words, kind, value, take_word, word, bytes, WRONG_KIND}
 
 -- ---- results in sequence, taken apart
@@ -91,6 +92,11 @@ pub length_bytes : (ws : List ℕ) → length (bytes ws) ≡ 4 * length ws
 unfolding bytes
 length_bytes [] = refl
 length_bytes (w ∷ ws) = omega (arith, length_bytes ws)
+
+-- the machine's number of four bytes
+pub four_bytes : (a b c d : ℕ) → from_le_bytes w32 (a ∷ b ∷ c ∷ d ∷ []) ≡ word_of a b c d
+unfolding word_of
+four_bytes a b c d = omega arith
 
 -- the bytes of a word of four bytes
 bytes_word : (a b c d : ℕ) → a < 256 → b < 256 → c < 256 → d < 256 → let w = word_of a b c d in

@@ -1,21 +1,23 @@
 -- Laws of the table: a row that was written, the rows before it, the clauses that the table then holds, clause by clause and
 -- literal by literal.
-use Rattle.std.specs.Prelude.{◌≡◌, refl, Bool, List, [], ◌∷◌, ◌++◌, map, ℕ, zero, suc, ◌+◌, ◌*◌, ◌≤◌, ◌<◌, length}
-use Rattle.std.proofs.Common.{sym, ◌∙◌, ⊎_elim, suc-add, add-zero, add-suc, le_trans, add-one, drop_of_length-le, take-take}
+use Rattle.std.specs.Prelude.{◌≡◌, refl, Bool, List, [], ◌∷◌, ◌++◌, ◌⊎◌, map, ℕ, zero, suc, ◌+◌, ◌*◌, ◌≤◌, ◌<◌, min, length}
+use Rattle.std.proofs.Common.{sym, subst, inl, inr, eq-or-lt_of_le, ◌∙◌, ⊎_elim, suc-add, add-zero, add-suc, le_trans, add-one, drop_of_length-le, take-take}
 use Rattle.std.proofs.Math.Path.{ap}
 use mathlib.Core.List.Memᴰ
+use Rattle.std.specs.List.{take-map}
 use Rattle.std.proofs.lemmas.List.{map-append}
 use Rattle.std.proofs.Math.Nat.{zero-add}
 use native.Mathlib.Omega.{arith}
+use native.Mathlib.Numerals.{unary_clauses}
 use Rattle.std.proofs.Math.ListN.{get_or, take, drop, length-map, length-drop, get_or-map, get_or-eq_default}
 use Rattle.std.proofs.Math.Seq.{take-nil, get_or-take, length-take-le, drop-cons, get_or-drop}
 use Rattle.words.specs.Lists.{In, keep, count, span}
 use Rattle.words.proofs.ListLaws.{in_span, span_in, length_span, get_or_span}
 use Rattle.words.proofs.BitLaws.{digit}
 use Rattle.words.proofs.CountLaws.{count_cons}
-use Rattle.formula.specs.Formula.{Literal, Clause, literal_of, length_limit, WellFormedClause}
+use Rattle.formula.specs.Formula.{Literal, Clause, literal_of, length_limit, clause_limit, WellFormedClause}
 use Rattle.formula.proofs.ModelLaws.{Known}
-use Rattle.formula.specs.Machine.{row_cells, length_at, literal_at, clause_at, held, Table, Row, Rows}
+use Rattle.formula.specs.Machine.{row_cells, length_at, literal_at, clause_at, held, Table, Row, Rows, RowCopied}
 
 -- ---- parts of a list
 
@@ -127,6 +129,16 @@ module _ (k : ℕ) (cells : List ℕ) where
   pub held_past : (i : ℕ) → k ≤ i → get_or (held k cells) i [] ≡ []
   held_past i h = get_or-eq_default (held k cells) [] (rw (length_held k cells) h)
 
+pub held_take : (k j : ℕ) (cells : List ℕ) → held (min k j) cells ≡ take j (held k cells)
+unfolding held span
+held_take k j cells = ap (map (clause_at cells)) (sym (span_take 0 k j)) ∙ sym (take-map (clause_at cells) j (span 0 k))
+  where
+    span_take : (i n m : ℕ) → take m (span i n) ≡ span i (min n m)
+    span_take i zero zero = refl
+    span_take i zero (suc m) = simp unary_clauses refl
+    span_take i (suc n) zero = simp unary_clauses refl
+    span_take i (suc n) (suc m) = simp unary_clauses (ap (λ (r : List ℕ). i ∷ r) (span_take (suc i) n m))
+
 -- ---- rows that can be read
 
 pub table_rows : {n k : ℕ} {cells : List ℕ} → Table n k cells → Rows k cells
@@ -197,3 +209,44 @@ table_wider n m k cells l t = record { size = t.size; room = t.room; short = t.s
 pub table_known : {n k : ℕ} {cells : List ℕ} → Table n k cells → Known n (held k cells)
 unfolding Known
 table_known {n} {k} {cells} t c i l j = let (u, h, e) = in_held k cells c i in (t.each u h).known l (rw e at j)
+
+-- ---- fewer clauses, and one more
+
+pub table_fewer : (n k j : ℕ) (cells : List ℕ) → j ≤ k → Table n k cells → Table n j cells
+table_fewer n k j cells l t =
+    record {
+      size = t.size;
+      room = omega (arith, t.room);
+      short = λ i h. t.short i (omega arith);
+      each = λ i h. t.each i (omega arith);
+    }
+
+-- a row of another table comes behind the clauses
+pub table_more : (n m k j : ℕ) (cells₀ from cells : List ℕ) (i : ℕ) → Table n k cells₀ → Table m j from → m ≤ n → i < j → k < clause_limit →
+    RowCopied from i cells₀ k cells → Table n (k + 1) cells
+table_more n m k j cells₀ from cells i t f l inside room c =
+    record {
+      size = c.size ∙ t.size;
+      room = omega arith;
+      short = λ x h. by_place short_before short_new x (x_cases x h);
+      each = λ x h. by_place each_before each_new x (x_cases x h);
+    }
+  where
+    x_cases : (x : ℕ) → x < k + 1 → (x ≡ k) ⊎ (x < k)
+    x_cases x h = eq-or-lt_of_le (omega arith)
+
+    by_place : {P : ℕ → Type 0} → ((x : ℕ) → x < k → P x) → P k → (x : ℕ) → (x ≡ k) ⊎ (x < k) → P x
+    by_place {P} before new x (inl e) = subst P (sym e) new
+    by_place before new x (inr h) = before x h
+
+    short_before : (x : ℕ) → x < k → length_at cells x ≤ length_limit
+    short_before x h = rw (length_kept k cells cells₀ c.kept x h) (t.short x h)
+
+    short_new : length_at cells k ≤ length_limit
+    short_new = rw c.long (f.short i inside)
+
+    each_before : (x : ℕ) → x < k → WellFormedClause n (clause_at cells x)
+    each_before x h = rw (clause_kept k cells cells₀ c.kept x h (t.short x h)) (t.each x h)
+
+    each_new : WellFormedClause n (clause_at cells k)
+    each_new = rw c.same ((table_wider m n j from l f).each i inside)

@@ -5,3 +5,4 @@ pub mod Refusals
 pub mod Sets
 pub mod Counts
 pub mod Machine
+pub mod Reading

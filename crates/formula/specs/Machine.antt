@@ -1,16 +1,15 @@
 -- What the machine reads and leaves: the table of clauses, the answers of the reader, and what each of its parts is given and leaves.
-use Rattle.std.specs.Prelude.{◌≡◌, cond, List, [], ◌∷◌, map, ℕ, ◌+◌, ◌-◌, ◌*◌, ◌%◌, ◌^◌, ◌≤◌, ◌<◌, eqb, length, get_or, take, drop}
+use Rattle.std.specs.Prelude.{◌≡◌, List, [], ◌∷◌, map, ℕ, ◌+◌, ◌-◌, ◌*◌, ◌%◌, ◌^◌, ◌≤◌, ◌<◌, length, get_or, take, drop, cond, eqb, Option, Some, None, Result as Outcome, Ok, Err, IfOk}
 use Rattle.std.specs.Int.Bits.{bit_or}
 use Rattle.words.specs.Lists.{span}
 use Rattle.words.specs.Bits.{bit, width}
-use Rattle.formula.specs.declared.Word.{Word}
-use Rattle.formula.specs.declared.Word.TheVariants.{Value, Other}
-use Rattle.formula.specs.declared.Taken.{Taken}
-use Rattle.formula.specs.declared.Taken.TheVariants.{Number, Refused as Stopped}
-use Rattle.formula.specs.declared.Reading.{Reading}
-use Rattle.formula.specs.declared.Reading.TheVariants.{Accepted, Refused}
+use Rattle.words.specs.declared.Refused.{Refused as Refusal}
+use Rattle.words.specs.Refusals.{number_of}
+use Rattle.formula.specs.declared.Kind.{Kind}
+use Rattle.formula.specs.declared.Kind.TheVariants.{Literal, ClauseLength, Variables, BatchHalf}
+use Rattle.formula.specs.declared.Header.{Header}
 use Rattle.formula.specs.Formula.{Clause, Formula, names, literal_word, literal_of, length_limit, clause_limit, WellFormedClause}
-use Rattle.formula.specs.Sheet.{Result, accepted, refused, kind, value, parse}
+use Rattle.formula.specs.Sheet.{Result, accepted, refused, kind, value, LITERAL, CLAUSE_LENGTH, VARIABLES, BATCH_HALF}
 
 -- ---- the table
 
@@ -86,28 +85,37 @@ pub record Masks (k : ℕ) (cells masks : List ℕ) : Type 0 where
   pub size : length masks ≡ clause_limit
   pub each : (i : ℕ) → i < k → get_or masks i 0 ≡ mask_of (clause_at cells i)
 
+-- ---- the answers
+
+-- The machine's answer as the definitions have it: what an Ok holds is read by f, and an Err is the refusal with its reason's number.
+abbrev pub result_in : {A B : Type 0} → (A → B) → Outcome A Refusal → Result B
+result_in f (Ok a) = accepted (f a)
+result_in f (Err r) = refused (number_of r.reason) r.place
+
+-- the kind of a word, which is its number
+unfoldable pub kind_number : Kind → ℕ
+kind_number Literal = LITERAL
+kind_number ClauseLength = CLAUSE_LENGTH
+kind_number Variables = VARIABLES
+kind_number BatchHalf = BATCH_HALF
+
 -- ---- the whole sheet
 
-unfoldable pub reading_of : Result Formula → Reading
-reading_of (accepted f) = Accepted f.batch f.n (length f.clauses)
-reading_of (refused number place) = Refused (record { number = number; place = place })
+-- the formula of a header whose clauses the table holds
+abbrev pub formula_in : Header → List ℕ → Formula
+formula_in h cells = record { batch = h.batch; n = h.n; clauses = held h.count cells }
 
--- What `read_sheet` answers, and what the table then holds.
-pub record SheetRead (s : List ℕ) (r : Reading) (cells : List ℕ) : Type 0 where
-  pub answer : r ≡ reading_of (parse s)
-  pub clauses : (f : Formula) → parse s ≡ accepted f → held (length f.clauses) cells ≡ f.clauses
-  pub table : (f : Formula) → parse s ≡ accepted f → Table f.n (length f.clauses) cells
+-- Where it is accepted, the table holds its clauses.
+pub record SheetLeft (t : Result Formula) (r : Outcome Header Refusal) (cells : List ℕ) : Type 0 where
+  pub answer : result_in (λ h. formula_in h cells) r ≡ t
+  pub small : IfOk r (λ h. h.n ≤ width)
+  pub table : IfOk r (λ h. Table h.n h.count cells)
 
 -- ---- its parts
 
 -- a word taken where a kind is due
-unfoldable pub word_taken : ℕ → ℕ → Word
-word_taken due w = cond (eqb (kind w) due) (Value (value w)) Other
-
--- a reading of which a number is kept
-unfoldable pub taken_of : {A : Type 0} → (A → ℕ) → Result A → Taken
-taken_of f (accepted a) = Number (f a)
-taken_of f (refused number place) = Stopped (record { number = number; place = place })
+unfoldable pub word_taken : ℕ → ℕ → Option ℕ
+word_taken due w = cond (eqb (kind w) due) (Some (value w)) None
 
 -- The set m holds just the variables that the literals name.
 pub record Named (n m : ℕ) (c : Clause) : Type 0 where
@@ -121,10 +129,9 @@ pub record LiteralsFit (part : List ℕ) (at n c : ℕ) (cells : List ℕ) (from
   pub short : c ≤ length_limit
   pub room : from + c ≤ length cells
 
--- Literals were read into the cells from `from` on, and the cells below are as before.
-pub record LiteralsLeft (t : Result Clause) (from : ℕ) (r : Taken) (cells₀ cells : List ℕ) : Type 0 where
-  pub answer : r ≡ taken_of length t
-  pub left : (c : Clause) → t ≡ accepted c → map literal_of (take (length c) (drop from cells)) ≡ c
+-- c literals were read into the cells from `from` on, and the cells below are as before.
+pub record LiteralsLeft (t : Result Clause) (c from : ℕ) (r : Outcome (Unit {0}) Refusal) (cells₀ cells : List ℕ) : Type 0 where
+  pub answer : result_in (λ _. map literal_of (take c (drop from cells))) r ≡ t
   pub kept : take from cells ≡ take from cells₀
 
 -- The sheet's part has a word at `at`, and the table has a row k.
@@ -135,11 +142,11 @@ pub record ClauseFits (part : List ℕ) (at n : ℕ) (cells : List ℕ) (k : ℕ
   pub size : length cells ≡ cell_count
   pub row : k < clause_limit
 
--- A clause was read into row k, and the rows below are as before.
-pub record ClauseLeft (t : Result Clause) (k : ℕ) (r : Taken) (cells₀ cells : List ℕ) : Type 0 where
-  pub answer : r ≡ taken_of length t
-  pub size : (c : Clause) → t ≡ accepted c → length_at cells k ≡ length c
-  pub left : (c : Clause) → t ≡ accepted c → clause_at cells k ≡ c
+-- A clause was read into row k, and its length is the answer; the rows below are as before.
+pub record ClauseLeft (t : Result Clause) (k : ℕ) (r : Outcome ℕ Refusal) (cells₀ cells : List ℕ) : Type 0 where
+  pub answer : result_in (λ c. clause_at cells k) r ≡ t
+  pub size : IfOk r (λ c. length_at cells k ≡ c)
+  pub short : IfOk r (λ c. c ≤ length_limit)
   pub kept : take (row_cells * k) cells ≡ take (row_cells * k) cells₀
 
 -- The sheet's part is no longer than the longest, and the table is whole.
@@ -148,8 +155,7 @@ pub record ClausesFit (part : List ℕ) (n : ℕ) (cells : List ℕ) : Type 0 wh
   pub variables : n ≤ width
   pub size : length cells ≡ cell_count
 
--- Clauses were read into the table.
-pub record ClausesLeft (t : Result (List Clause)) (r : Taken) (cells : List ℕ) : Type 0 where
-  pub answer : r ≡ taken_of length t
-  pub left : (cs : List Clause) → t ≡ accepted cs → held (length cs) cells ≡ cs
-  pub short : (cs : List Clause) → t ≡ accepted cs → (i : ℕ) → i < length cs → length_at cells i ≤ length_limit
+-- Clauses were read into the table, and their number is the answer.
+pub record ClausesLeft (t : Result (List Clause)) (r : Outcome ℕ Refusal) (cells : List ℕ) : Type 0 where
+  pub answer : result_in (λ k. held k cells) r ≡ t
+  pub rows : IfOk r (λ k. Rows k cells)

@@ -1,10 +1,8 @@
 -- Clauses as sets of literals, and one list of clauses standing in another (paper 01, "What the library offers"): order and
 -- repetition do not count.
-use Rattle.std.specs.Prelude.{Bool, cond, ◌&&◌, List, [], ◌∷◌, ℕ, ◌+◌, eqb, length}
+use Rattle.std.specs.Prelude.{Bool, cond, ◌&&◌, List, [], ◌∷◌, ℕ, ◌+◌, eqb, length, Option, Some, None}
 use Rattle.std.specs.Bool.{beq}
 use Rattle.words.specs.Lists.{some, every}
-use Rattle.formula.specs.declared.sets.Lacking.{Lacking}
-use Rattle.formula.specs.declared.sets.Lacking.TheVariants.{Nothing, At}
 use Rattle.formula.specs.Formula.{Literal, Clause}
 
 unfoldable pub same_literal : Literal → Literal → Bool
@@ -28,6 +26,6 @@ same_clauses cs ds = stands cs ds && stands ds cs
 
 -- The first clause of cs that is, as a set of literals, none of ds, by the place of its first word in a sheet where cs begin at the place
 -- given (02, paper 12).
-unfoldable pub first_lacking : (place : ℕ) → List Clause → List Clause → Lacking
-first_lacking place [] ds = Nothing
-first_lacking place (c ∷ cs) ds = cond (some (same_set c) ds) (first_lacking (place + 1 + length c) cs ds) (At place)
+unfoldable pub first_lacking : (place : ℕ) → List Clause → List Clause → Option ℕ
+first_lacking place [] ds = None
+first_lacking place (c ∷ cs) ds = cond (some (same_set c) ds) (first_lacking (place + 1 + length c) cs ds) (Some place)

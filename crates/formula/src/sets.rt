@@ -1,189 +1,108 @@
-// Clauses as sets of literals: whether those of one table stand in another (specs/Sets.antt).
-ghost use Rattle.std.specs.Prelude.{◌≡◌, length, get_or};
+// Clauses as sets of literals: whether those of one sheet stand in another (specs/Sets.antt). A
+// clause is given by the words of its literals.
+ghost use Rattle.std.specs.Prelude.{◌≡◌, ◌<◌, ◌≤◌, map, length};
 ghost use Rattle.words.specs.Lists.{some};
-ghost use Rattle.formula.specs.Formula.{clause_limit, literal_of};
-ghost use Rattle.formula.specs.Machine.{clause_at, held, Row, Rows, mask_of, Masks};
+ghost use Rattle.formula.specs.Formula.{literal_of, length_limit};
+ghost use Rattle.formula.specs.Machine.{held, mask_of, Masks};
 ghost use Rattle.formula.specs.Sheet.{header_words};
 ghost use Rattle.formula.specs.Sets.{same_literal, within, same_set, stands, same_clauses, first_lacking};
 
-use crate::table::{length_at, literal_at};
-use crate::{CELLS, CLAUSES, HEADER_WORDS};
+use crate::sheet::Sheet;
+use crate::{CLAUSES, HEADER_WORDS};
 
-// The place in its sheet of a clause that another sheet lacks, where it lacks one.
-#[derive(Clone, Copy)]
-pub enum Lacking {
-    Nothing,
-    At(u32),
+// The literal with this word stands in d.
+fn literal_stands(word: u32, d: &[u32]) -> bool
+    ensures { result ≡ some (same_literal (literal_of word)) (map literal_of d.now) }
+{
+    d.contains(&word)
 }
 
-// The literal with the word w stands in clause i.
-fn literal_stands(w: u32, cells: &[u32; CELLS], i: usize) -> bool
-    requires { Row cells.now i }
-    ensures { result ≡ some (same_literal (literal_of w)) (clause_at cells.now i) }
+// Every literal of c stands in d.
+fn clause_within(c: &[u32], d: &[u32]) -> bool
+    ensures { result ≡ within (map literal_of c.now) (map literal_of d.now) }
 {
-    let length = length_at(cells, i);
-    let mut j = 0;
-    while j < length {
-        if w == literal_at(cells, i, j) {
-            return true;
-        }
-        j += 1;
-    }
-    false
+    c.iter().all(|word| literal_stands(*word, d))
 }
 
-// Every literal of clause i of a stands in clause k of b.
-fn clause_within(a: &[u32; CELLS], i: usize, b: &[u32; CELLS], k: usize) -> bool
-    requires { Row a.now i × Row b.now k }
-    ensures { result ≡ within (clause_at a.now i) (clause_at b.now k) }
+// c and d are the same set of literals.
+fn same_set(c: &[u32], d: &[u32]) -> bool
+    ensures { result ≡ same_set (map literal_of c.now) (map literal_of d.now) }
 {
-    let length = length_at(a, i);
-    let mut j = 0;
-    while j < length {
-        if !literal_stands(literal_at(a, i, j), b, k) {
-            return false;
-        }
-        j += 1;
-    }
-    true
+    clause_within(c, d) && clause_within(d, c)
 }
 
-// Clause i of a and clause k of b are the same set of literals.
-fn same_set(a: &[u32; CELLS], i: usize, b: &[u32; CELLS], k: usize) -> bool
-    requires { Row a.now i × Row b.now k }
-    ensures { result ≡ same_set (clause_at a.now i) (clause_at b.now k) }
+// A bit for each literal, by what is left of its word: clauses with other bits are other sets.
+fn mask(clause: &[u32]) -> u64
+    ensures { result ≡ mask_of (map literal_of clause.now) }
 {
-    clause_within(a, i, b, k) && clause_within(b, k, a, i)
+    clause
+        .iter()
+        .fold(0, |bits, word| bits | (1u64 << (*word % 64)))
 }
 
-// A bit for each literal of clause i, by what is left of its word: clauses with other bits are other
-// sets.
-fn mask(cells: &[u32; CELLS], i: usize) -> u64
-    requires { Row cells.now i }
-    ensures { result ≡ mask_of (clause_at cells.now i) }
+// The masks of a sheet's clauses.
+fn clause_masks(sheet: &Sheet) -> [u64; CLAUSES]
+    ensures { Masks sheet.now.count sheet.now.cells result }
 {
-    let length = length_at(cells, i);
-    let mut bits: u64 = 0;
-    let mut j = 0;
-    while j < length {
-        bits |= 1u64 << (literal_at(cells, i, j) % 64);
-        j += 1;
-    }
-    bits
-}
-
-// In a function of its own: a loop beside the array would carry all its cells.
-fn no_masks() -> [u64; CLAUSES]
-    ensures { length result ≡ clause_limit }
-{
-    [0; CLAUSES]
-}
-
-// The masks of the first `count` clauses.
-fn clause_masks(cells: &[u32; CELLS], count: usize) -> [u64; CLAUSES]
-    requires { Rows count cells.now }
-    ensures { Masks count cells.now result }
-{
-    let mut masks = no_masks();
-    let mut i = 0;
-    while i < count {
-        masks[i] = mask(cells, i);
-        i += 1;
+    let mut masks = [0; CLAUSES];
+    for i in 0..sheet.count {
+        masks[i] = mask(sheet.clause(i));
     }
     masks
 }
 
-// Clause i of a, whose mask is `own`, and clause k of b are the same set: masks are compared first.
-fn same_by_mask(
-    a: &[u32; CELLS],
-    i: usize,
-    own: u64,
-    b: &[u32; CELLS],
-    k: usize,
-    masks: &[u64; CLAUSES],
-) -> bool
-    requires row { Row a.now i × Row b.now k × (own ≡ mask_of (clause_at a.now i)) }
-    requires masks_len { (length masks.now ≡ clause_limit) × (get_or masks.now k 0 ≡ mask_of (clause_at b.now k)) }
-    ensures { result ≡ same_set (clause_at a.now i) (clause_at b.now k) }
+// A clause is, as a set, one of the sheet's: masks are compared first.
+fn clause_stands(clause: &[u32], sheet: &Sheet, masks: &[u64; CLAUSES]) -> bool
+    requires { Masks sheet.now.count sheet.now.cells masks.now }
+    ensures { result ≡ some (same_set (map literal_of clause.now)) (held sheet.now.count sheet.now.cells) }
 {
-    own == masks[k] && same_set(a, i, b, k)
-}
-
-// Clause i of a is, as a set, one of the first `count` clauses of b.
-fn clause_stands(
-    a: &[u32; CELLS],
-    i: usize,
-    b: &[u32; CELLS],
-    count: usize,
-    masks: &[u64; CLAUSES],
-) -> bool
-    requires { Row a.now i × Rows count b.now × Masks count b.now masks.now }
-    ensures { result ≡ some (same_set (clause_at a.now i)) (held count b.now) }
-{
-    let own = mask(a, i);
-    let mut k = 0;
-    while k < count {
-        if same_by_mask(a, i, own, b, k, masks) {
+    let own = mask(clause);
+    for k in 0..sheet.count {
+        if own == masks[k] && same_set(clause, sheet.clause(k)) {
             return true;
         }
-        k += 1;
     }
     false
 }
 
-// The same. Further clauses mostly come behind the others: the clause of b with the same number is
-// looked at first.
-fn stands_still(
-    a: &[u32; CELLS],
-    i: usize,
-    b: &[u32; CELLS],
-    count: usize,
-    masks: &[u64; CLAUSES],
-) -> bool
-    requires { Row a.now i × Rows count b.now × Masks count b.now masks.now }
-    ensures { result ≡ some (same_set (clause_at a.now i)) (held count b.now) }
+// The same. Further clauses mostly come behind the others: the sheet's clause i, with the same
+// number, is looked at first.
+fn stands_still(clause: &[u32], i: usize, sheet: &Sheet, masks: &[u64; CLAUSES]) -> bool
+    requires { Masks sheet.now.count sheet.now.cells masks.now }
+    ensures { result ≡ some (same_set (map literal_of clause.now)) (held sheet.now.count sheet.now.cells) }
 {
-    if i < count {
-        if same_set(a, i, b, i) {
-            return true;
-        }
+    if i < sheet.count && same_set(clause, sheet.clause(i)) {
+        return true;
     }
-    clause_stands(a, i, b, count, masks)
+    clause_stands(clause, sheet, masks)
 }
 
-// The first of the first `of_a` clauses of a that is, as a set, none of the first `of_b` clauses of b.
-pub fn first_lacking(a: &[u32; CELLS], of_a: usize, b: &[u32; CELLS], of_b: usize) -> Lacking
-    requires { Rows of_a a.now × Rows of_b b.now }
-    ensures { result ≡ first_lacking header_words (held of_a a.now) (held of_b b.now) }
+// The place in a of its first clause that is, as a set, none of b's.
+pub fn first_lacking(a: &Sheet, b: &Sheet) -> Option<u32>
+    ensures { result ≡ first_lacking header_words (held a.now.count a.now.cells) (held b.now.count b.now.cells) }
 {
-    let masks = clause_masks(b, of_b);
+    let masks = clause_masks(b);
     let mut place = HEADER_WORDS;
-    let mut i = 0;
-    while i < of_a {
-        if !stands_still(a, i, b, of_b, &masks) {
-            return Lacking::At(place);
+    for i in 0..a.count {
+        let clause = a.clause(i);
+        if !stands_still(clause, i, b, &masks) {
+            return Some(place);
         }
-        place += 1 + length_at(a, i);
-        i += 1;
+        place += 1 + clause.len() as u32;
     }
-    Lacking::Nothing
+    None
 }
 
-// Each of the first `of_a` clauses of a is, as a set, one of the first `of_b` clauses of b.
-fn clauses_stand(a: &[u32; CELLS], of_a: usize, b: &[u32; CELLS], of_b: usize) -> bool
-    requires { Rows of_a a.now × Rows of_b b.now }
-    ensures { result ≡ stands (held of_a a.now) (held of_b b.now) }
+// Each clause of a is, as a set, one of b's.
+fn clauses_stand(a: &Sheet, b: &Sheet) -> bool
+    ensures { result ≡ stands (held a.now.count a.now.cells) (held b.now.count b.now.cells) }
 {
-    match first_lacking(a, of_a, b, of_b) {
-        Lacking::Nothing => true,
-        Lacking::At(_) => false,
-    }
+    first_lacking(a, b).is_none()
 }
 
-// Two tables hold the same clauses, each taken as a set.
-pub fn same_clauses(a: &[u32; CELLS], of_a: usize, b: &[u32; CELLS], of_b: usize) -> bool
-    requires { Rows of_a a.now × Rows of_b b.now }
-    ensures { result ≡ same_clauses (held of_a a.now) (held of_b b.now) }
+// Two sheets have the same clauses, each taken as a set.
+pub fn same_clauses(a: &Sheet, b: &Sheet) -> bool
+    ensures { result ≡ same_clauses (held a.now.count a.now.cells) (held b.now.count b.now.cells) }
 {
-    clauses_stand(a, of_a, b, of_b) && clauses_stand(b, of_b, a, of_a)
+    clauses_stand(a, b) && clauses_stand(b, a)
 }

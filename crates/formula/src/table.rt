@@ -5,13 +5,6 @@ ghost use Rattle.formula.specs.Machine.{cell_count, length_at, literal_at, Row, 
 
 use crate::{CELLS, ROW_CELLS};
 
-// A table of zeros, in a function of its own: a loop beside the array would carry all its cells.
-pub fn empty_table() -> [u32; CELLS]
-    ensures { length result ≡ cell_count }
-{
-    [0; CELLS]
-}
-
 // The length of clause i.
 pub fn length_at(cells: &[u32; CELLS], i: usize) -> u32
     requires { i < clause_limit }
@@ -33,9 +26,7 @@ pub fn copy_row(from: &[u32; CELLS], i: usize, to: &mut [u32; CELLS], j: usize)
     requires { Row from.now i × (j < clause_limit) × (length to.old ≡ cell_count) }
     ensures { RowCopied from.now i to.old j to.new }
 {
-    let mut x = 0;
-    while x < ROW_CELLS {
-        to[ROW_CELLS * j + x] = from[ROW_CELLS * i + x];
-        x += 1;
-    }
+    let row = ROW_CELLS * i;
+    let at = ROW_CELLS * j;
+    to[at..at + ROW_CELLS].copy_from_slice(&from[row..row + ROW_CELLS]);
 }

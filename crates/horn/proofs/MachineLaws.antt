@@ -1,7 +1,10 @@
 -- The laws that the machine's rounds cite, one for each way through a round.
-use Rattle.std.specs.Prelude.{◌≡◌, Bool, ℕ, suc, ◌+◌, ◌-◌, ◌%◌, ◌≤◌, ◌<◌, eqb, drop}
+use Rattle.std.specs.Prelude.{◌≡◌, Bool, cond, map, ℕ, ◌+◌, ◌-◌, ◌%◌, ◌≤◌, ◌<◌, eqb, get_or, drop, Option}
+use Rattle.std.specs.List.{count_by}
+use Rattle.std.proofs.lemmas.List.Recursion.{is_count_by}
+use Rattle.std.proofs.Math.Seq.{drop-cons}
 use Rattle.std.proofs.Math.Path.{refl, sym, ap}
-use Rattle.std.proofs.Common.{◌∙◌, add-one}
+use Rattle.std.proofs.Common.{◌∙◌, add-one, subst, drop_of_length-le}
 use Rattle.std.proofs.Math.Bool.{true, false, not, and-true, not-not}
 use mathlib.Core.List.Memᴰ
 use mathlib.Core.List.{List, [], ◌∷◌}
@@ -12,7 +15,6 @@ use Rattle.words.specs.Lists.{In, keep, count}
 use Rattle.words.proofs.ListLaws.{keep_in}
 use Rattle.words.specs.Bits.{toggle, width}
 use Rattle.words.specs.Machine.{bits_of}
-use Rattle.words.proofs.BitLaws.{digit, by_parity}
 use Rattle.words.proofs.CountLaws.{some_count}
 use Rattle.words.specs.declared.Assignment.{Assignment}
 use Rattle.formula.specs.Formula.{Literal, Clause, WellFormedClause, bit_of, met, some_met, all_true, literal_word, literal_of}
@@ -32,36 +34,57 @@ use Rattle.tree.proofs.TreeLaws.{after_nothing}
 use Rattle.tree.specs.Machine.{answer_in}
 use Rattle.tree.specs.declared.Found.TheVariants.{Clear, None, Spent}
 use Rattle.planes.specs.declared.Kind.TheVariants.{Zero}
-use Rattle.planes.specs.Machine.{first_counter, second_counter, plane_cells, First, test_of, wanted, Occurs, Starts, Shifted}
+use Rattle.planes.specs.Machine.{first_counter, second_counter, plane_cells, Counts, First, FirstFound, test_of, wanted, Occurs, Starts, Shifted}
 use Rattle.planes.proofs.CountsLaws.{counts_same, literal_rows, first_same, shifted_counts}
 use Rattle.horn.specs.Horn.{positives, is_horn, first_false, horn_tree, rounds}
 use Rattle.horn.proofs.HornLaws.{horn_few, rounds_room}
 use Rattle.horn.specs.Machine.{first_word, Shows, Sets, Before}
 
--- ---- the positive literals of a clause, literal by literal
+-- ---- the positive literals of a clause, by the words of all
 
--- counted by its word
-pub positive_digit : (w : ℕ) → 1 - w % 2 ≡ digit (literal_of w).positive
-unfolding literal_of
-positive_digit w = by_parity (λ d. 1 - d ≡ digit (eqb d 0)) w (λ e. refl) (λ e. refl)
+-- they are counted by their words;
+pub positives_counted : (ws : List ℕ) → count_by (λ w. eqb (w % 2) 0) ws ≡ length (positives (map literal_of ws))
+unfolding positives keep literal_of
+positives_counted ws = sym (is_count_by (λ vs. length (positives (map literal_of vs))) (λ w. eqb (w % 2) 0) refl step ws)
+  where
+    pick : (b : Bool) (l : Literal) (c : Clause) → length (cond b (l ∷ c) c) ≡ cond b (1 + length c) (length c)
+    pick true l c = omega arith
+    pick false l c = refl
 
-module _ (c : Clause) (j : ℕ) (left : positives (drop j c) ≡ positives c) where
+    step : (w : ℕ) (vs : List ℕ) →
+        length (positives (map literal_of (w ∷ vs)))
+        ≡ cond (eqb (w % 2) 0) (1 + length (positives (map literal_of vs))) (length (positives (map literal_of vs)))
+    step w vs = pick (eqb (w % 2) 0) (literal_of w) (positives (map literal_of vs))
+
+-- those from number j on are all of them:
+abbrev pub PositivesFrom : List ℕ → ℕ → Type 0
+PositivesFrom ws j = positives (map literal_of (drop j ws)) ≡ positives (map literal_of ws)
+
+module _ (ws : List ℕ) (j : ℕ) (left : PositivesFrom ws j) where
+  here : j < length ws → map literal_of (drop j ws) ≡ literal_of (get_or ws j 0) ∷ map literal_of (drop (j + 1) ws)
+  here l = rw add-one (ap (map literal_of) (drop-cons ws j 0 l))
+
   -- one that is positive is the first of them,
-  pub positives_found : {w : ℕ} → drop j c ≡ literal_of w ∷ drop (suc j) c → (literal_of w).positive ≡ true → w ≡ first_word (positives c)
+  pub positives_found : j < length ws → (literal_of (get_or ws j 0)).positive ≡ true →
+      get_or ws j 0 ≡ first_word (positives (map literal_of ws))
   unfolding positives keep first_word
-  positives_found {w} here e =
-      let all : positives c ≡ literal_of w ∷ keep (λ l. l.positive) (drop (suc j) c) = sym left ∙ rw (here, e) in
+  positives_found l e =
+      let w = get_or ws j 0 in
+      let all : positives (map literal_of ws) ≡ literal_of w ∷ positives (map literal_of (drop (j + 1) ws)) =
+      sym left ∙ rw (here l, e) in
       sym (ap first_word all ∙ word_literal w)
 
   -- one that is not is passed over,
-  pub positives_next : {l : Literal} → drop j c ≡ l ∷ drop (suc j) c → l.positive ≡ false → positives (drop (j + 1) c) ≡ positives c
+  pub positives_next : j < length ws → (literal_of (get_or ws j 0)).positive ≡ false → PositivesFrom ws (j + 1)
   unfolding positives keep
-  positives_next here e = (rw (here, e, add-one)) ∙ left
+  positives_next l e = let passed : positives (map literal_of (drop j ws)) ≡ positives (map literal_of (drop (j + 1) ws)) = rw (here l, e) in sym passed ∙ left
 
   -- and past the last one there is none.
-  pub positives_none : drop j c ≡ [] → 0 ≡ first_word (positives c)
+  pub positives_none : length ws ≤ j → 0 ≡ first_word (positives (map literal_of ws))
   unfolding positives keep first_word
-  positives_none end = let none : positives c ≡ [] = sym left ∙ rw end in sym (ap first_word none)
+  positives_none end =
+      let none : positives (map literal_of ws) ≡ [] = sym left ∙ ap (λ (vs : List ℕ). positives (map literal_of vs)) (drop_of_length-le ws {i = j} end) in
+      sym (ap first_word none)
 
 -- ---- the planes
 
@@ -99,6 +122,16 @@ round_start {n} {k} {cells} budget table size shows =
       shows = shows;
       same = settle_start budget _ ∙ ap (answer budget) (rounds_room n (held k cells) (table_known table) (n + budget - 0) (omega arith));
     }
+
+-- The first false clause as the planes show it, where the occurrence table is that of these clauses.
+module _ {n k : ℕ} {cells planes : List ℕ} {m budget made : ℕ} (b : Before n k cells planes m budget made) {occ : List ℕ}
+    (o : Occurs k cells occ) {all : ℕ} (same : all ≡ k) (r : Option ℕ) where
+  abbrev Found : ℕ → Type 0
+  Found x = (cells' : List ℕ) (f g : Clause → ℕ) → Occurs x cells' occ → Counts x cells' first_counter f planes →
+      Counts x cells' second_counter g planes → FirstFound 0 x (wanted Zero 0 cells' f g) r
+
+  pub zero_found : Found all → FirstFound 0 k (wanted Zero 0 cells (count (met m)) (sign_count true)) r
+  zero_found told = subst Found same told cells _ _ o b.shows.met b.shows.positive
 
 -- the word of a literal of a variable
 word_some : (l : Literal) → 1 ≤ l.variable → 2 ≤ literal_word l

@@ -1,6 +1,7 @@
 -- What `leg` and `leg_longer` answer and leave (02, papers 11 and 12), for every plan, budget, sheet or sheets, and record, in the numbers
 -- that a host gets; and what legs in order come to. A leg `l` is either: on one sheet (`alone`), or on an old one and a longer one (`grown`).
-use Rattle.std.specs.Prelude.{◌≡◌, ◌⊎◌, ◌↔◌, Bool, true, false, List, ℕ, ◌+◌, ◌^◌, ◌≤◌, ◌<◌, eqb, length}
+use Rattle.std.specs.Prelude.{is_none as nothing}
+use Rattle.std.specs.Prelude.{Some, ◌≡◌, ◌⊎◌, ◌↔◌, Bool, true, false, List, ℕ, ◌+◌, ◌^◌, ◌≤◌, ◌<◌, eqb, length}
 use Rattle.std.proofs.Math.Path.{refl, ap, subst}
 use Rattle.std.proofs.Common.{sym, ◌∙◌, inl, inr, true≢false, le_trans, zero-add, arith, pow_mono}
 use Rattle.std.proofs.Math.Logic.{⊎_elim}
@@ -10,10 +11,9 @@ use Rattle.formula.specs.Formula.{Formula, all_true, Satisfiable}
 use Rattle.formula.specs.Sheet.{accepted, parse, formula_words, header_words}
 use Rattle.formula.specs.Sets.{stands, first_lacking}
 use Rattle.formula.proofs.SetLaws.{stands_refl, stands_model}
-use Rattle.formula.proofs.LackingLaws.{Lacks, lacking_at, lacks_none, lacking_stands}
+use Rattle.formula.proofs.LackingLaws.{Lacks, lacking_at, lacking_stands}
 use Rattle.formula.proofs.ParseAccepted.{parse_well_formed}
 use Rattle.formula.proofs.ParseRefused.{reason_number}
-use Rattle.formula.specs.declared.sets.Lacking.TheVariants.{At}
 use Rattle.code.specs.Code.{code}
 use Rattle.tree.specs.Explore.{none, calls}
 use Rattle.tree.specs.Budget.{Answer, clear, spent, whole, answer}
@@ -78,7 +78,6 @@ leg_answered l r = go (leg_was l r)
 -- A leg on one sheet names that sheet at every refusal, and never says that a clause is dropped.
 pub alone_refused : {p : Plan} {A : ℕ} {s : List ℕ} {r : Checkpoint} {sheet number place : ℕ} → LegReason (alone p A s) r sheet number place →
     (sheet ≡ FIRST) × (number ≡ CLAUSE_DROPPED → ⊥)
-unfolding lacks_none
 alone_refused (bad_plan_lem h) = (refl, λ e. omega arith)
 alone_refused (bad_old h why) = (refl, λ e. omega (arith, (reason_number why).1))
 alone_refused (bad_sheet h e why) = (refl, λ e'. omega (arith, (reason_number why).1))
@@ -89,10 +88,10 @@ alone_refused (unchecked h o (Why.other_sheet m a b c)) = (refl, λ e. omega ari
 alone_refused (unchecked h o (Why.finished m a b c d)) = (refl, λ e. omega arith)
 alone_refused {s = s} (unchecked {g = g} {f = f} h o (Why.dropped m a b c d x)) = (refl, λ e. absurd (never (Laws.same_read s h.old h.sheet) x))
   where
-    never : {g f : Formula} {place : ℕ} → g ≡ f → first_lacking header_words g.clauses f.clauses ≡ At place → ⊥
+    never : {g f : Formula} {place : ℕ} → g ≡ f → first_lacking header_words g.clauses f.clauses ≡ Some place → ⊥
     never {g} {f} same x =
         let all = subst (λ (y : Formula). stands g.clauses y.clauses ≡ true) same (stands_refl g.clauses) in
-        true≢false (sym all ∙ sym (lacking_stands header_words g.clauses f.clauses) ∙ ap lacks_none x)
+        true≢false (sym all ∙ sym (lacking_stands header_words g.clauses f.clauses) ∙ ap nothing x)
 
 -- Refusal 13 is about the old sheet, and its place is the first word there of the first clause that is lacking: as many words as the sheet of the
 -- clauses before it has.

@@ -1,5 +1,5 @@
 -- What a leg is, case by case, and what legs in order keep: the laws that LegAnswers rests on.
-use Rattle.std.specs.Prelude.{◌≡◌, Bool, cond, not, List, [], ◌∷◌, ℕ, ◌+◌, ◌^◌, ◌≤◌, ◌<◌, eqb}
+use Rattle.std.specs.Prelude.{is_none, None, Option, Some, ◌≡◌, Bool, cond, not, List, [], ◌∷◌, ℕ, ◌+◌, ◌^◌, ◌≤◌, ◌<◌, eqb}
 use Rattle.std.proofs.Math.Path.{refl, ap, subst}
 use Rattle.std.proofs.Common.{sym, ap₂, ◌∙◌, inl, inr, true≢false, le_trans, zero-add, add_assoc, arith, leb-true, leb-false, eq-eqb, eqb-true}
 use Rattle.std.proofs.Math.Bool.{true, false}
@@ -15,9 +15,7 @@ use Rattle.formula.proofs.ParseAccepted.{parse_well_formed}
 use Rattle.formula.proofs.ParseRefused.{parse_refused}
 use Rattle.formula.specs.Sets.{stands, first_lacking}
 use Rattle.formula.proofs.SetLaws.{stands_refl}
-use Rattle.formula.proofs.LackingLaws.{lacks_none, lacking_stands}
-use Rattle.formula.specs.declared.sets.Lacking.{Lacking}
-use Rattle.formula.specs.declared.sets.Lacking.TheVariants.{Nothing, At}
+use Rattle.formula.proofs.LackingLaws.{lacking_stands}
 use Rattle.code.specs.Code.{code}
 use Rattle.code.specs.Operations.{coded?}
 use Rattle.tree.specs.Explore.{Outcome, found, calls, plus, powers}
@@ -31,19 +29,17 @@ use Rattle.search.proofs.LegLaws.{nothing_empties, emptied_further, emptied_join
 use Rattle.search.proofs.CallLaws.{run_rest}
 use Rattle.horn.specs.Horn.{is_horn}
 use Rattle.decision.specs.declared.Reply.{Reply}
-use Rattle.legs.specs.declared.Check.{Check}
-use Rattle.legs.specs.declared.Check.TheVariants.{Passed, Declined}
 use Rattle.legs.specs.declared.Checkpoint.{Checkpoint}
 use Rattle.legs.specs.declared.LegEnd.{LegEnd}
 use Rattle.decision.specs.Answers.{method_of, answered, judged, decided, decision, reply_to, method_number, numbers_of, reply_of, BAD_PLAN, REFUSED, SPENT, HORN, BALLS}
 use Rattle.decision.specs.Right.{Accepted}
 use Rattle.decision.specs.DemandLaws.{covering, reply_stays, calls_number, spent_number}
-use Rattle.legs.specs.Legs.{about, refused_leg, decided_leg, Leg, centres, of_plan, of_batch, belongs, moved_to, decline_when, all_kept, ◌then◌, checks, balls_leg, unless_declined, leg_on, leg_read, takes, Brings, Searched, checkpoint_after, Turn, turn_of, turns, summed, start, OnOne, StandsIn, Follow, no_more, Enough, ball_legs, FIRST, OTHER_SEARCH, FINISHED}
+use Rattle.legs.specs.Legs.{Check, Passed, Declined, about, refused_leg, decided_leg, Leg, centres, of_plan, of_batch, belongs, moved_to, decline_when, all_kept, ◌then◌, checks, balls_leg, unless_declined, leg_on, leg_read, takes, Brings, Searched, checkpoint_after, Turn, turn_of, turns, summed, start, OnOne, StandsIn, Follow, no_more, Enough, ball_legs, FIRST, OTHER_SEARCH, FINISHED}
 use Rattle.legs.specs.LegRefusals.{Checked, too_many, other_plan, other_old, other_sheet, finished, dropped, passes, LegReason, bad_plan_lem, bad_old, bad_sheet, unchecked}
 
 -- ---- the checks
 
-module _ (name M : ℕ) (p : Plan) (r : Checkpoint) (g f : Formula) (x : Lacking) where
+module _ (name M : ℕ) (p : Plan) (r : Checkpoint) (g f : Formula) (x : Option ℕ) where
   abbrev Says : Check → Type 0
   Says = Checked name M p r g f x
 
@@ -58,10 +54,10 @@ module _ (name M : ℕ) (p : Plan) (r : Checkpoint) (g f : Formula) (x : Lacking
   from_old = decline_when (not (of_batch g r)) FIRST OTHER_SEARCH then from_sheet
 
   module _ (few : M < 2 ^ 63) where
-    by_lacking : of_plan p r ≡ true → of_batch g r ≡ true → of_batch f r ≡ true → r.next < M → (y : Lacking) → x ≡ y → Says (all_kept y)
+    by_lacking : of_plan p r ≡ true → of_batch g r ≡ true → of_batch f r ≡ true → r.next < M → (y : Option ℕ) → x ≡ y → Says (all_kept y)
     unfolding all_kept
-    by_lacking a b c d Nothing e = passes few a b c d e
-    by_lacking a b c d (At place) e = dropped few a b c d e
+    by_lacking a b c d None e = passes few a b c d e
+    by_lacking a b c d (Some place) e = dropped few a b c d e
 
     by_next : of_plan p r ≡ true → of_batch g r ≡ true → of_batch f r ≡ true → (t : Bool) → leb M r.next ≡ t →
         Says (decline_when t name FINISHED then all_kept x)
@@ -99,14 +95,14 @@ passed? Passed = true
 passed? (Declined sheet number place) = false
 
 -- where all pass, the balls can be searched, and no clause of the old formula is lacking
-pub record Fine (M : ℕ) (p : Plan) (r : Checkpoint) (g f : Formula) (x : Lacking) : Type 0 where
+pub record Fine (M : ℕ) (p : Plan) (r : Checkpoint) (g f : Formula) (x : Option ℕ) : Type 0 where
   pub few : M < 2 ^ 63
   pub same : belongs f p r ≡ true
   pub old : of_batch g r ≡ true
   pub left : r.next < M
-  pub kept : x ≡ Nothing
+  pub kept : x ≡ None
 
-pub checks_fine : (name M : ℕ) (p : Plan) (r : Checkpoint) (g f : Formula) (x : Lacking) → checks name M p r g f x ≡ Passed → Fine M p r g f x
+pub checks_fine : (name M : ℕ) (p : Plan) (r : Checkpoint) (g f : Formula) (x : Option ℕ) → checks name M p r g f x ≡ Passed → Fine M p r g f x
 unfolding passed? belongs
 checks_fine name M p r g f x = go (checks_say name M p r g f x)
   where
@@ -129,14 +125,14 @@ pub data LegWas (l : Leg) (r : Checkpoint) : LegEnd → Type 0 where
       LegWas l r (balls_leg l.plan l.budget r f)
 
 pub leg_was : (l : Leg) (r : Checkpoint) → LegWas l r (takes r l)
-unfolding takes leg_read leg_on unless_declined lacks_none
+unfolding takes leg_read leg_on unless_declined
 leg_was l r = by_coded (coded? l.plan.size l.plan.radius) refl
   where
     fine : {g f : Formula} → Brings l g f → is_horn f.clauses ≡ false →
         Fine (centres l.plan f) l.plan r g f (first_lacking header_words g.clauses f.clauses) → LegWas l r (balls_leg l.plan l.budget r f)
     fine {g} {f} h o a =
         balls_leg_lem h (record { balls = o; few = a.few; same = a.same; left = a.left })
-        (sym (lacking_stands header_words g.clauses f.clauses) ∙ ap lacks_none a.kept)
+        (sym (lacking_stands header_words g.clauses f.clauses) ∙ ap is_none a.kept)
 
     by_checks : {g f : Formula} → Brings l g f → is_horn f.clauses ≡ false → (c : Check) →
         checks l.name (centres l.plan f) l.plan r g f (first_lacking header_words g.clauses f.clauses) ≡ c →

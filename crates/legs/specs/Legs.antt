@@ -1,13 +1,11 @@
 -- Searches in legs (02, papers 11 and 12): what a leg answers and what it leaves, for every plan, budget, sheet or sheets, and record; and
 -- legs in order.
-use Rattle.std.specs.Prelude.{◌≡◌, ◌⊎◌, Bool, true, false, cond, not, ◌&&◌, List, [], ◌∷◌, ℕ, ◌+◌, ◌^◌, ◌≤◌, ◌<◌, eqb, leb}
+use Rattle.std.specs.Prelude.{None, Option, Some, ◌≡◌, ◌⊎◌, Bool, true, false, cond, not, ◌&&◌, List, [], ◌∷◌, ℕ, ◌+◌, ◌^◌, ◌≤◌, ◌<◌, eqb, leb}
 use Rattle.words.specs.Lists.{count}
 use Rattle.words.specs.Bits.{from_words}
 use Rattle.formula.specs.Formula.{Formula}
 use Rattle.formula.specs.Sheet.{Result, accepted, refused, parse, header_words}
 use Rattle.formula.specs.Sets.{stands, first_lacking}
-use Rattle.formula.specs.declared.sets.Lacking.{Lacking}
-use Rattle.formula.specs.declared.sets.Lacking.TheVariants.{Nothing, At}
 use Rattle.code.specs.Code.{code}
 use Rattle.code.specs.Operations.{coded?}
 use Rattle.tree.specs.Explore.{powers}
@@ -16,8 +14,6 @@ use Rattle.search.specs.Run.{Plan, blocks, centre_count, summed_radius, longest,
 use Rattle.horn.specs.Horn.{is_horn}
 use Rattle.decision.specs.declared.Method.TheVariants.{Balls}
 use Rattle.decision.specs.declared.Reply.{Reply}
-use Rattle.legs.specs.declared.Check.{Check}
-use Rattle.legs.specs.declared.Check.TheVariants.{Passed, Declined}
 use Rattle.legs.specs.declared.Checkpoint.{Checkpoint}
 use Rattle.legs.specs.declared.LegReply.{LegReply}
 use Rattle.legs.specs.declared.LegEnd.{LegEnd}
@@ -108,15 +104,20 @@ belongs f p r = of_batch f r && of_plan p r
 abbrev pub moved_to : Checkpoint → ℕ → Checkpoint
 moved_to r i = record { batch = r.batch; n = r.n; size = r.size; radius = r.radius; next = i }
 
+-- What a check says: passed, or a refusal and the sheet that it is about.
+pub data Check : Type 0 where
+  Passed : Check
+  Declined : (sheet number place : ℕ) → Check
+
 -- a check that declines where the test says so
 unfoldable pub decline_when : Bool → (sheet number : ℕ) → Check
 decline_when true sheet number = Declined sheet number 0
 decline_when false sheet number = Passed
 
 -- every clause of the old formula stands in the one that is searched: the first that does not, by its place
-unfoldable pub all_kept : Lacking → Check
-all_kept Nothing = Passed
-all_kept (At place) = Declined FIRST CLAUSE_DROPPED place
+unfoldable pub all_kept : Option ℕ → Check
+all_kept None = Passed
+all_kept (Some place) = Declined FIRST CLAUSE_DROPPED place
 
 -- The first check that declines ends them.
 unfoldable pub ◌then◌ : Check → Check → Check
@@ -124,7 +125,7 @@ Passed then next = next
 Declined sheet number place then next = Declined sheet number place
 
 -- The checks before M balls are searched, in order: g is the old formula, f the one that is searched, and `name` the number of its sheet.
-unfoldable pub checks : (name M : ℕ) → Plan → Checkpoint → (g f : Formula) → Lacking → Check
+unfoldable pub checks : (name M : ℕ) → Plan → Checkpoint → (g f : Formula) → Option ℕ → Check
 checks name M p r g f lacking =
     decline_when (leb (2 ^ 63) M) name BAD_PLAN
     then decline_when (not (of_plan p r)) name OTHER_SEARCH

@@ -2,38 +2,52 @@
 // longer one.
 #![tactic(auto)]
 
-ghost use Rattle.std.specs.Prelude.{◌≡◌, false, List, ℕ, ◌≤◌};
-ghost use Rattle.words.specs.Bits.{width};
-ghost use Rattle.formula.specs.Sheet.{accepted, parse};
-ghost use Rattle.formula.specs.Machine.{Table, held};
+ghost use Rattle.std.specs.Prelude.{◌≡◌, true, false, MatchResult};
+ghost use Rattle.words.specs.Refusals.{number_of};
+ghost use Rattle.formula.specs.Reading.{formula_of};
+ghost use Rattle.formula.specs.Sheet.{accepted, refused, parse};
+ghost use Rattle.code.specs.Operations.{coded?};
 ghost use Rattle.tree.specs.Machine.{answer_in};
 ghost use Rattle.search.specs.Run.{plan};
-ghost use Rattle.search.specs.Machine.{next_in, progress_in};
+ghost use Rattle.search.specs.Machine.{plan_in, progress_in};
 ghost use Rattle.horn.specs.Horn.{is_horn};
-ghost use Rattle.legs.specs.Legs.{of_plan, of_batch, about, refused_leg, decided_leg, checks, all_kept, leg_read, takes, alone, grown};
-ghost use Rattle.decision.specs.Machine.{decision_in, formula_in};
-ghost use Rattle.legs.specs.Machine.{header_in, progress_end, checked_leg, table_leg};
+ghost use Rattle.decision.specs.Answers.{answered};
+ghost use Rattle.decision.specs.Machine.{decision_in};
+ghost use Rattle.legs.specs.Legs.{of_plan, of_batch, about, refused_leg, decided_leg, moved_to, decline_when, checks, all_kept, takes, alone, grown};
+ghost use Rattle.legs.specs.Machine.{sheet_number, check_in, end_in, header_in, progress_end, checked_leg, sheet_leg};
 
-use decision::{Decision, Method, Reply, decide_table, declined, numbers, settled};
-use formula::{Lacking, Reading};
-use search::Progress;
+use code::Plan;
+use decision::{Decision, Method, Reply, decide_sheet, decided};
+use formula::Sheet;
+use search::{Codes, Progress};
 use tree::Found;
+use words::{Reason, Refused};
 
-// The refusals of a leg.
-pub const OTHER_SEARCH: u32 = 11;
+// Which sheet a refusal is about: the only one or the old one, or the longer one.
+#[derive(Clone, Copy, PartialEq, Eq, Debug)]
+pub enum Which {
+    First = 1,
+    Longer = 2,
+}
 
-pub const FINISHED: u32 = 12;
+impl Which {
+    pub fn number(self) -> u32
+        ensures { result ≡ sheet_number self }
+    {
+        self as u32
+    }
+}
 
-pub const CLAUSE_DROPPED: u32 = 13;
-
-// Which sheet a refusal is about: the only one or the old one, and the longer one.
-const FIRST: u32 = 1;
-
-const LONGER: u32 = 2;
+// A leg that is declined: about which sheet, and why.
+#[derive(Clone, Copy)]
+pub struct Declined {
+    pub sheet: Which,
+    pub why: Refused,
+}
 
 // A checkpoint: the batch number, n and the plan of the search, and the next ball.
 #[repr(C)]
-#[derive(Clone, Copy)]
+#[derive(Clone, Copy, PartialEq, Eq)]
 pub struct Checkpoint {
     pub batch: u32,
     pub n: u32,
@@ -44,7 +58,7 @@ pub struct Checkpoint {
 
 // The fields of a reply, and the sheet that a refusal is about.
 #[repr(C)]
-#[derive(Clone, Copy)]
+#[derive(Clone, Copy, PartialEq, Eq)]
 pub struct LegReply {
     pub verdict: u32,
     pub batch: u32,
@@ -57,6 +71,27 @@ pub struct LegReply {
     pub number: u32,
     pub place: u32,
     pub sheet: u32,
+}
+
+// A leg's reply without the sheet that a refusal is about.
+impl From<LegReply> for Reply {
+    ghost from_gives = { λ leg reply. leg ≡ about leg.sheet reply };
+
+    #[tactic(auto, unfolding(crate::specs::Legs::about))]
+    fn from(reply: LegReply) -> Reply {
+        Reply {
+            verdict: reply.verdict,
+            batch: reply.batch,
+            road: reply.road,
+            marks0: reply.marks0,
+            marks1: reply.marks1,
+            marks2: reply.marks2,
+            marks3: reply.marks3,
+            calls: reply.calls,
+            number: reply.number,
+            place: reply.place,
+        }
+    }
 }
 
 // What a leg leaves.
@@ -84,29 +119,22 @@ fn about(sheet: u32, reply: Reply) -> LegReply
     }
 }
 
-// What a check says: passed, or a refusal and the sheet that it is about.
-#[derive(Clone, Copy)]
-pub enum Check {
-    Passed,
-    Declined { sheet: u32, number: u32, place: u32 },
-}
-
 // What came before a sheet that is searched: the batch number and n of the old sheet, and which of
 // its clauses is lacking now; and the number of the sheet that is searched, in refusals.
 #[derive(Clone, Copy)]
 pub struct Before {
-    pub name: u32,
+    pub name: Which,
     pub batch: u32,
     pub n: u32,
-    pub lacking: Lacking,
+    pub lacking: Option<u32>,
 }
 
 // A refusal leaves the record as it came.
-fn refuse_leg(sheet: u32, number: u32, place: u32, checkpoint: Checkpoint) -> LegEnd
-    ensures { result ≡ refused_leg sheet number place checkpoint }
+fn refuse_leg(declined: Declined, checkpoint: Checkpoint) -> LegEnd
+    ensures { result ≡ refused_leg (sheet_number declined.sheet) (number_of declined.why.reason) declined.why.place checkpoint }
 {
     LegEnd {
-        reply: about(sheet, declined(number, place)),
+        reply: about(declined.sheet.number(), decision::declined(declined.why)),
         checkpoint,
     }
 }
@@ -116,16 +144,16 @@ fn end_leg(decision: Decision, checkpoint: Checkpoint) -> LegEnd
     ensures { result ≡ decided_leg (decision_in decision) checkpoint }
 {
     LegEnd {
-        reply: about(0, numbers(decision)),
+        reply: about(0, Reply::from(decision)),
         checkpoint,
     }
 }
 
 // Whether the record is of this plan.
-fn of_plan(size: u32, radius: u32, checkpoint: Checkpoint) -> bool
-    ensures { result ≡ of_plan (plan size radius) checkpoint }
+fn of_plan(plan: Plan, checkpoint: Checkpoint) -> bool
+    ensures { result ≡ of_plan (plan_in plan) checkpoint }
 {
-    checkpoint.size == size && checkpoint.radius == radius
+    checkpoint.size == plan.size && checkpoint.radius == plan.radius
 }
 
 // Whether the record is of this batch and n.
@@ -135,144 +163,158 @@ fn of_batch(batch: u32, n: u32, checkpoint: Checkpoint) -> bool
     checkpoint.batch == batch && checkpoint.n == n
 }
 
-fn decline(sheet: u32, number: u32) -> Check
-    ensures { result ≡ Check.Declined sheet number 0 }
+// A check that declines where the test says so.
+fn decline_when(test: bool, sheet: Which, reason: Reason) -> Result<(), Declined>
+    ensures { check_in result ≡ decline_when test (sheet_number sheet) (number_of reason) }
 {
-    Check::Declined {
-        sheet,
-        number,
-        place: 0,
+    if test {
+        return Err(Declined {
+            sheet,
+            why: reason.at(0),
+        });
     }
+    Ok(())
 }
 
 // The last check: no clause of the old sheet is lacking.
-fn all_kept(lacking: Lacking) -> Check
-    ensures { result ≡ all_kept lacking }
+fn all_kept(lacking: Option<u32>) -> Result<(), Declined>
+    ensures { check_in result ≡ all_kept lacking }
 {
     match lacking {
-        Lacking::Nothing => Check::Passed,
-        Lacking::At(place) => Check::Declined {
-            sheet: FIRST,
-            number: CLAUSE_DROPPED,
-            place,
-        },
+        None => Ok(()),
+        Some(place) => Err(Declined {
+            sheet: Which::First,
+            why: Reason::ClauseDropped.at(place),
+        }),
     }
 }
 
 // The checks before balls are searched, in order.
 fn check_leg(
     centres: u64,
-    batch: u32,
-    n: u32,
+    sheet: &Sheet,
     before: Before,
-    size: u32,
-    radius: u32,
+    plan: Plan,
     checkpoint: Checkpoint,
-) -> Check
-    ensures { result ≡ checks before.name centres (plan size radius) checkpoint
-        (header_in before.batch before.n) (header_in batch n) before.lacking }
+) -> Result<(), Declined>
+    ensures { check_in result ≡ checks (sheet_number before.name) centres (plan_in plan) checkpoint
+        (header_in before.batch before.n) (formula_of sheet.now) before.lacking }
 {
     let name = before.name;
-    if search::CENTRES <= centres {
-        return decline(name, code::BAD_PLAN);
-    }
-    if !of_plan(size, radius, checkpoint) {
-        return decline(name, OTHER_SEARCH);
-    }
-    if !of_batch(before.batch, before.n, checkpoint) {
-        return decline(FIRST, OTHER_SEARCH);
-    }
-    if !of_batch(batch, n, checkpoint) {
-        return decline(name, OTHER_SEARCH);
-    }
-    if centres <= checkpoint.next {
-        return decline(name, FINISHED);
-    }
-    let lacking = before.lacking;
-    all_kept(lacking)
+    let old = of_batch(before.batch, before.n, checkpoint);
+    let own = of_batch(sheet.batch, sheet.n, checkpoint);
+    decline_when(search::CENTRES <= centres, name, Reason::BadPlan)?;
+    decline_when(!of_plan(plan, checkpoint), name, Reason::OtherSearch)?;
+    decline_when(!old, Which::First, Reason::OtherSearch)?;
+    decline_when(!own, name, Reason::OtherSearch)?;
+    decline_when(centres <= checkpoint.next, name, Reason::Finished)?;
+    all_kept(before.lacking)
 }
 
-// The ball that is next: after clear and none there is none left.
-fn next_ball(found: Found, next: u64, centres: u64) -> u64
-    ensures { result ≡ next_in centres next (answer_in found) }
+// What balls found, and the record moved on to the next one.
+fn end_balls(batch: u32, found: Found, next: u64, checkpoint: Checkpoint) -> LegEnd
+    ensures { result ≡ decided_leg
+        (record { batch = batch; method = Method.Balls; verdict = answered (answer_in found) }) (moved_to checkpoint next) }
 {
-    match found {
-        Found::Clear(_, _) => centres,
-        Found::None(_) => centres,
-        Found::Spent(_) => next,
-    }
+    let mut left = checkpoint;
+    left.next = next;
+    end_leg(decided(batch, Method::Balls, found), left)
 }
 
-// What the balls of a leg came to, and the record moved on.
+// What the balls of a leg came to, of so many: after clear and none there is none left.
 fn advance(progress: Progress, batch: u32, centres: u64, checkpoint: Checkpoint) -> LegEnd
     ensures { result ≡ progress_end batch checkpoint (progress_in centres progress) }
 {
-    let found = progress.found;
-    let mut left = checkpoint;
-    left.next = next_ball(found, progress.next, centres);
-    let decision = Decision {
-        batch,
-        method: Method::Balls,
-        verdict: settled(found),
-    };
-    end_leg(decision, left)
-}
-
-// The leg on k clauses in a table over n variables that are not Horn, by an accepted plan.
-fn leg_by_balls(
-    cells: &[u32; formula::CELLS],
-    batch: u32,
-    n: u32,
-    k: usize,
-    before: Before,
-    size: u32,
-    radius: u32,
-    budget: u32,
-    checkpoint: Checkpoint,
-) -> LegEnd
-    requires n_le_width { (n ≤ width) × Table n k cells.now × (is_horn (held k cells.now) ≡ false) }
-    requires le_size { (1 ≤ size) × (size ≤ 12) × (radius ≤ size) }
-    ensures { result ≡ checked_leg before (plan size radius) budget checkpoint (formula_in batch n k cells.now) }
-{
-    let mut whole = search::code_cells();
-    let mut last = search::code_cells();
-    let layout = search::lay_out(n, size, radius, &mut whole, &mut last);
-    let centres = search::centres(layout);
-    match check_leg(centres, batch, n, before, size, radius, checkpoint) {
-        Check::Passed => {
-            let next = checkpoint.next;
-            let progress = search::leg(cells, n, k, layout, &whole, &last, next, budget);
-            advance(progress, batch, centres, checkpoint)
+    match progress {
+        Progress::Clear(model, calls) => {
+            end_balls(batch, Found::Clear(model, calls), centres, checkpoint)
         }
-        Check::Declined {
-            sheet,
-            number,
-            place,
-        } => refuse_leg(sheet, number, place, checkpoint),
+        Progress::None(calls) => end_balls(batch, Found::None(calls), centres, checkpoint),
+        Progress::Spent { calls, next } => {
+            end_balls(batch, Found::Spent(calls), next, checkpoint)
+        }
     }
 }
 
-// The leg on k clauses in a table over n variables, by an accepted plan.
-fn leg_table(
-    cells: &[u32; formula::CELLS],
-    batch: u32,
-    n: u32,
-    k: usize,
+// The leg on a sheet that is not Horn.
+fn leg_by_balls(
+    sheet: &Sheet,
     before: Before,
+    plan: Plan,
+    budget: u32,
+    checkpoint: Checkpoint,
+) -> Result<LegEnd, Declined>
+    requires { is_horn (formula_of sheet.now).clauses ≡ false }
+    ensures { end_in checkpoint result ≡ checked_leg before (plan_in plan) budget checkpoint (formula_of sheet.now) }
+{
+    let mut codes = Codes::empty(plan);
+    codes.lay_out(sheet.n);
+    let centres = codes.centres();
+    check_leg(centres, sheet, before, plan, checkpoint)?;
+    let progress = search::leg(sheet, &codes, checkpoint.next, budget);
+    Ok(advance(progress, sheet.batch, centres, checkpoint))
+}
+
+// The leg on a sheet, after what came before it.
+fn leg_sheet(
+    sheet: &Sheet,
+    before: Before,
+    plan: Plan,
+    budget: u32,
+    checkpoint: Checkpoint,
+) -> Result<LegEnd, Declined>
+    ensures { end_in checkpoint result ≡ sheet_leg before (plan_in plan) budget checkpoint (formula_of sheet.now) }
+{
+    if horn::is_horn(sheet) {
+        return Ok(end_leg(decide_sheet(sheet, plan, budget), checkpoint));
+    }
+    leg_by_balls(sheet, before, plan, budget, checkpoint)
+}
+
+// The plan of a leg, or its refusal about the sheet given.
+fn plan_of(which: Which, size: u32, radius: u32) -> Result<Plan, Declined>
+    ensures { MatchResult result
+        (λ plan. (plan.size ≡ size) × (plan.radius ≡ radius) × (coded? size radius ≡ true))
+        (λ d. (sheet_number d.sheet ≡ sheet_number which) × (number_of d.why.reason ≡ 8) × (d.why.place ≡ 0) × (coded? size radius ≡ false)) }
+{
+    match Plan::new(size, radius) {
+        Ok(plan) => Ok(plan),
+        Err(why) => Err(Declined { sheet: which, why }),
+    }
+}
+
+// Reads a sheet of a leg; a refusal says which it is.
+fn read(which: Which, bytes: &[u8], sheet: &mut Sheet) -> Result<(), Declined>
+    ensures { MatchResult result
+        (λ _. accepted (formula_of sheet.new) ≡ parse bytes.now)
+        (λ d. (sheet_number d.sheet ≡ sheet_number which) × (refused (number_of d.why.reason) d.why.place ≡ parse bytes.now)) }
+{
+    match sheet.read(bytes) {
+        Ok(()) => Ok(()),
+        Err(why) => Err(Declined { sheet: which, why }),
+    }
+}
+
+// A leg on one sheet, or the first refusal: the plan's goes first.
+fn leg_alone(
     size: u32,
     radius: u32,
     budget: u32,
+    bytes: &[u8],
     checkpoint: Checkpoint,
-) -> LegEnd
-    requires n_le_width { (n ≤ width) × Table n k cells.now }
-    requires le_size { (1 ≤ size) × (size ≤ 12) × (radius ≤ size) }
-    ensures { result ≡ table_leg before (plan size radius) budget checkpoint (formula_in batch n k cells.now) }
+) -> Result<LegEnd, Declined>
+    ensures { end_in checkpoint result ≡ takes checkpoint (alone (plan size radius) budget bytes.now) }
 {
-    if horn::is_horn(cells, k) {
-        let decision = decide_table(cells, batch, n, k, size, radius, budget);
-        return end_leg(decision, checkpoint);
-    }
-    leg_by_balls(cells, batch, n, k, before, size, radius, budget, checkpoint)
+    let plan = plan_of(Which::First, size, radius)?;
+    let mut sheet = Sheet::empty();
+    read(Which::First, bytes, &mut sheet)?;
+    let before = Before {
+        name: Which::First,
+        batch: sheet.batch,
+        n: sheet.n,
+        lacking: None,
+    };
+    leg_sheet(&sheet, before, plan, budget, checkpoint)
 }
 
 // A leg with the record by value: what it gives, and the record as it leaves it.
@@ -285,65 +327,36 @@ pub fn leg_by_value(
 ) -> LegEnd
     ensures { result ≡ takes checkpoint (alone (plan size radius) budget sheet.now) }
 {
-    if !code::coded(size, radius) {
-        return refuse_leg(FIRST, code::BAD_PLAN, 0, checkpoint);
-    }
-    let mut table = formula::empty_table();
-    match formula::read_sheet(sheet, &mut table) {
-        Reading::Accepted { batch, n, clauses } => {
-            let before = Before {
-                name: FIRST,
-                batch,
-                n,
-                lacking: Lacking::Nothing,
-            };
-            leg_table(
-                &table, batch, n, clauses, before, size, radius, budget, checkpoint,
-            )
-        }
-        Reading::Refused(refusal) => refuse_leg(FIRST, refusal.number, refusal.place, checkpoint),
-    }
-}
-
-// Reads the longer sheet and works a leg on it, where a table holds the formula of the old sheet.
-fn leg_after(
-    cells: &[u32; formula::CELLS],
-    batch: u32,
-    n: u32,
-    k: usize,
-    size: u32,
-    radius: u32,
-    budget: u32,
-    longer: &[u8],
-    checkpoint: Checkpoint,
-) -> LegEnd
-    requires table { Table n k cells.now }
-    requires le_size { (1 ≤ size) × (size ≤ 12) × (radius ≤ size) }
-    ensures { (o : List ℕ) → result ≡ leg_read (grown (plan size radius) budget o longer.now) checkpoint
-        (accepted (formula_in batch n k cells.now)) (parse longer.now) }
-{
-    let mut table = formula::empty_table();
-    match formula::read_sheet(longer, &mut table) {
-        Reading::Accepted {
-            batch: b,
-            n: m,
-            clauses,
-        } => {
-            let before = Before {
-                name: LONGER,
-                batch,
-                n,
-                lacking: formula::first_lacking(cells, k, &table, clauses),
-            };
-            leg_table(
-                &table, b, m, clauses, before, size, radius, budget, checkpoint,
-            )
-        }
-        Reading::Refused(refusal) => refuse_leg(LONGER, refusal.number, refusal.place, checkpoint),
-    }
+    leg_alone(size, radius, budget, sheet, checkpoint).unwrap_or_else(|declined| refuse_leg(
+        declined, checkpoint,
+    ))
 }
 
 // The same where further clauses have come: the old sheet, and a longer one, which is searched.
+fn leg_grown(
+    size: u32,
+    radius: u32,
+    budget: u32,
+    bytes: &[u8],
+    longer: &[u8],
+    checkpoint: Checkpoint,
+) -> Result<LegEnd, Declined>
+    ensures { end_in checkpoint result ≡ takes checkpoint (grown (plan size radius) budget bytes.now longer.now) }
+{
+    let plan = plan_of(Which::Longer, size, radius)?;
+    let mut old = Sheet::empty();
+    read(Which::First, bytes, &mut old)?;
+    let mut sheet = Sheet::empty();
+    read(Which::Longer, longer, &mut sheet)?;
+    let before = Before {
+        name: Which::Longer,
+        batch: old.batch,
+        n: old.n,
+        lacking: formula::first_lacking(&old, &sheet),
+    };
+    leg_sheet(&sheet, before, plan, budget, checkpoint)
+}
+
 pub fn leg_longer_by_value(
     size: u32,
     radius: u32,
@@ -354,16 +367,7 @@ pub fn leg_longer_by_value(
 ) -> LegEnd
     ensures { result ≡ takes checkpoint (grown (plan size radius) budget sheet.now longer.now) }
 {
-    if !code::coded(size, radius) {
-        return refuse_leg(LONGER, code::BAD_PLAN, 0, checkpoint);
-    }
-    let mut old = formula::empty_table();
-    match formula::read_sheet(sheet, &mut old) {
-        Reading::Accepted { batch, n, clauses } => {
-            leg_after(
-                &old, batch, n, clauses, size, radius, budget, longer, checkpoint,
-            )
-        }
-        Reading::Refused(refusal) => refuse_leg(FIRST, refusal.number, refusal.place, checkpoint),
-    }
+    leg_grown(size, radius, budget, sheet, longer, checkpoint).unwrap_or_else(|declined| refuse_leg(
+        declined, checkpoint,
+    ))
 }

@@ -1,13 +1,9 @@
 -- What the program answers to any input, and which clauses it keeps (02, paper 13).
-use Rattle.std.specs.Prelude.{ℕ, cond, List, length, drop, nat_lt, slice_index}
-use Rattle.formula.specs.Sheet.{words}
+use Rattle.std.specs.Prelude.{ℕ, cond, List, length, drop, nat_lt}
 use Rattle.search.specs.Run.{plan}
 use Rattle.decision.specs.Answers.{refusal, BAD_PLAN}
 use Rattle.deletion.specs.Core.{Core, ended, core_to}
-
--- word i of the input
-abbrev pub word_of_input : List ℕ → ℕ → ℕ
-word_of_input input i = slice_index (words input) i
+use Rattle.line.specs.Request.{word_of_input}
 
 -- Block length, radius and budget are the first three words, and the rest is a sheet; the list has so many cells. Fewer than 12 bytes are a bad plan.
 unfoldable pub program_core : List ℕ → (cells : ℕ) → Core

@@ -8,49 +8,44 @@ ghost use Rattle.decision.specs.Answers.{reply_of};
 ghost use Rattle.deletion.specs.Core.{list_after};
 ghost use Rattle.minimal_core.specs.Program.{program_core};
 
-use decision::Reply;
-use formula::{CLAUSES, word_at};
-use line::{print_line, print_number, read_input};
+use decision::{Ending, Reply};
+use formula::CLAUSES;
+use line::{INPUT, Line, Request, read_input};
 use std::io;
-use words::wide_u16;
+use words::Reason;
 
 // Input that is too short for a plan and a budget is a bad plan.
+#[tactic(auto, unfolding(crate::specs::Program::program_core, deletion::specs::Core::ended, deletion::specs::Core::clash_to, deletion::specs::Core::list_after, decision::specs::Answers::refusal, words::specs::Refusals::number_of, decision::specs::Answers::reply_of, decision::specs::Answers::numbers_of,))]
 fn answer(input: &[u8], list: &mut [u16]) -> Reply
     ensures answer { result ≡ reply_of (program_core input.now (length list.old)).decision }
     ensures cells { list.new ≡ list_after (program_core input.now (length list.old)).kept list.old }
 {
-    if input.len() < 12 {
-        return decision::declined(code::BAD_PLAN, 0);
-    }
-    let size = word_at(input, 0);
-    let radius = word_at(input, 1);
-    let budget = word_at(input, 2);
-    engine::clash(size, radius, budget, &input[12..], list)
+    let Some(asked) = Request::read(input) else {
+        return decision::declined(Reason::BadPlan.at(0));
+    };
+    engine::clash(asked.size, asked.radius, asked.budget, asked.sheet, list)
 }
 
-// The first numbers of the list, as many as it has at the most.
-fn print_numbers(rt: &impl Print, list: &[u16], count: usize) -> io::Result<()> {
-    let mut i = 0;
-    while i < count && i < list.len() {
+// The numbers on one line, with spaces between them.
+fn print_numbers(rt: &impl Print, numbers: &[u16]) -> io::Result<()> {
+    for (i, number) in numbers.iter().enumerate() {
         if 0 < i {
             print!(rt; " ")?;
         }
-        print_number(rt, "", wide_u16(list[i]))?;
-        i += 1;
+        print!(rt; "{number}")?;
     }
     println!(rt)
 }
 
 fn main(rt: HostRuntime) -> io::Result<()> {
-    // One word more than the plan, the budget and the longest sheet: longer input is seen as
-    // overlong.
-    let mut input = [0u8; 36892];
-    let n = read_input(&rt, &mut input)?;
+    let mut room = [0u8; INPUT];
+    let input = read_input(&rt, &mut room)?;
     let mut list = [0u16; CLAUSES];
-    let reply = answer(&input[..n], &mut list);
-    print_line(&rt, reply)?;
-    if reply.verdict == decision::NONE {
-        print_numbers(&rt, &list, reply.calls as usize)?;
+    let reply = answer(input, &mut list);
+    rt.println(Line::from(reply))?;
+    if reply.verdict == Ending::None.number() {
+        let count = CLAUSES.min(reply.calls as usize);
+        print_numbers(&rt, &list[..count])?;
     }
     Ok(())
 }

@@ -1,21 +1,23 @@
 -- The laws of the occurrence table: it is built clause by clause, and literal by literal; its rows and its sets stand apart.
-use Rattle.std.specs.Prelude.{◌≡◌, Bool, true, false, ◌&&◌, ◌||◌, List, [], ◌∷◌, ◌++◌, map, eqb, ltb, length, get_or, take, drop, set, replicate}
+use Rattle.std.specs.Prelude.{◌≡◌, Bool, true, false, ◌&&◌, ◌||◌, List, [], ◌∷◌, ◌++◌, map, eqb, ltb, length, get_or, take, set, replicate}
 use Rattle.std.proofs.Math.Path.{refl}
-use Rattle.std.proofs.Common.{sym, ap, ◌∙◌, add-one, arith, length-drop, length-set, get_or-set_same, take-suc, get_or-drop, eq-eqb, ne_eqb, eqb-true, lt-ltb, le-ltb, ltb-true, ltb-false, below_more}
+use Rattle.std.proofs.Common.{sym, ap, ◌∙◌, add-one, arith, length-set, take_all, get_or-set_same, take-suc, eq-eqb, ne_eqb, eqb-true, lt-ltb, le-ltb, ltb-true, ltb-false, below_more}
 use Rattle.std.proofs.Math.Bool.{and-true, and-false, or-false, or_assoc, and-or_distrib_right}
 use Rattle.std.proofs.lemmas.List.{map-append}
 use Prim.Native.Nat.{ℕ, zero, suc, ◌+◌, ◌-◌, ◌*◌, ◌/◌, ◌%◌, ◌^◌, ◌≤◌, ◌<◌}
 use Rattle.std.proofs.Math.Seq.{get_or-set_other}
 use Rattle.std.specs.Int.Bits.{bit_or, xor_zero_l}
+use Rattle.std.proofs.lemmas.Nat.{or_shifted}
+use Rattle.std.proofs.Math.Pow.{shl_exact}
 use Rattle.std.proofs.lemmas.Bool.{eqb-false}
 use Rattle.words.specs.Lists.{some}
 use Rattle.words.proofs.ListLaws.{some_last}
 use Rattle.words.specs.Bits.{bit, toggle, width}
 use Rattle.words.proofs.BitLaws.{bit_zero, same_test, bit_power}
-use Rattle.words.specs.Machine.{set_of}
-use Rattle.words.specs.declared.Set.{Set}
-use Rattle.formula.specs.Formula.{Clause, names, literal_of}
-use Rattle.formula.specs.Machine.{row_cells, cell_count, clause_at, literal_at}
+use Rattle.words.specs.Machine.{Set, set_of}
+use Rattle.words.proofs.SetLaws.{low, high, halves}
+use Rattle.formula.specs.Formula.{Clause, bit_of, names, literal_of}
+use Rattle.formula.specs.Machine.{clause_at}
 use Rattle.planes.specs.Machine.{lanes, row_words, lane_count, row_count, sets_from, occurrence_cells, lane, set_at, NamedBy, Occurs, Marked, SetStored}
 use Rattle.formula.specs.Counts.{holds}
 use Rattle.formula.proofs.SheetLaws.{names_snoc}
@@ -73,26 +75,30 @@ module _ (xs : List ℕ) (a x : ℕ) where
   unfolding lane
   rows_aside l w u row room = rw (get_or-set_other xs a (w * row_words + u / lanes) x 0 (λ e. omega arith))
 
--- the two words of a set
+-- a set from its two words,
+pub set_joined : (h l : ℕ) → h < 2 ^ 64 → l < 2 ^ 64 → bit_or (h * 2 ^ 64 % 2 ^ width) l ≡ h * 2 ^ 64 + l
+set_joined h l p q = rw (shl_exact {a = h} 64 64 width p (omega arith)) (or_shifted h 64 l q)
+
+-- and its two words
 pub set_stored : (xs : List ℕ) (i : ℕ) (s : Set) → i < lane_count → length xs ≡ occurrence_cells →
-    SetStored i (set_of s) xs (set (set xs (sets_from + 2 * i) s.low) (sets_from + 2 * i + 1) s.high)
-unfolding set_at set_of
+    SetStored i (set_of s) xs (set (set xs (sets_from + 2 * i) (low s)) (sets_from + 2 * i + 1) (high s))
+unfolding set_at
 set_stored xs i s room size =
     let a : ℕ = sets_from + 2 * i in
-    let ys = set xs a s.low in
+    let ys = set xs a (low s) in
     record {
       here = rw (
-        get_or-set_same ys (a + 1) s.high 0 (simp length-set (omega arith)),
-        get_or-set_other ys (a + 1) a s.high 0 (λ e. omega arith),
-        get_or-set_same xs a s.low 0 (omega arith),
-      );
+        get_or-set_same ys (a + 1) (high s) 0 (simp length-set (omega arith)),
+        get_or-set_other ys (a + 1) a (high s) 0 (λ e. omega arith),
+        get_or-set_same xs a (low s) 0 (omega arith),
+      ) (halves s);
       other = λ u d. rw (
-        get_or-set_other ys (a + 1) (sets_from + 2 * u + 1) s.high 0 (λ e. d (omega arith)),
-        get_or-set_other xs a (sets_from + 2 * u + 1) s.low 0 (λ e. omega arith),
-        get_or-set_other ys (a + 1) (sets_from + 2 * u) s.high 0 (λ e. omega arith),
-        get_or-set_other xs a (sets_from + 2 * u) s.low 0 (λ e. d (omega arith)),
+        get_or-set_other ys (a + 1) (sets_from + 2 * u + 1) (high s) 0 (λ e. d (omega arith)),
+        get_or-set_other xs a (sets_from + 2 * u + 1) (low s) 0 (λ e. omega arith),
+        get_or-set_other ys (a + 1) (sets_from + 2 * u) (high s) 0 (λ e. omega arith),
+        get_or-set_other xs a (sets_from + 2 * u) (low s) 0 (λ e. d (omega arith)),
       );
-      rows = λ w u l h. rows_aside ys (a + 1) s.high (omega arith) w u l h ∙ rows_aside xs a s.low (omega arith) w u l h;
+      rows = λ w u l h. rows_aside ys (a + 1) (high s) (omega arith) w u l h ∙ rows_aside xs a (low s) (omega arith) w u l h;
     }
 
 -- ---- clause by clause
@@ -159,26 +165,26 @@ occurs_more k m cells xs ys zs o marked named stored =
 
 -- ---- the literals of a clause
 
--- the first j literals of clause i
-abbrev pub first_of : List ℕ → ℕ → ℕ → Clause
-first_of cells i j = map literal_of (take j (drop (row_cells * i + 1) cells))
+-- the first j literals of a clause, by their words
+abbrev pub first_of : List ℕ → ℕ → Clause
+first_of words j = map literal_of (take j words)
 
-first_more : (cells : List ℕ) (i j : ℕ) → length cells ≡ cell_count → row_cells * i + 1 + j < cell_count →
-    first_of cells i (j + 1) ≡ first_of cells i j ++ (literal_of (literal_at cells i j) ∷ [])
-unfolding literal_at
-first_more cells i j h l =
-    let room : j < length (drop (row_cells * i + 1) cells) = rw length-drop (omega arith) in
-    rw (add-one j, take-suc (drop (row_cells * i + 1) cells) j 0 room, get_or-drop (row_cells * i + 1) cells j 0, map-append literal_of)
+first_more : (words : List ℕ) (j : ℕ) → j < length words →
+    first_of words (j + 1) ≡ first_of words j ++ (literal_of (get_or words j 0) ∷ [])
+first_more words j l = rw (add-one j, take-suc words j 0 l, map-append literal_of)
+
+-- all of them
+pub first_all : (words : List ℕ) (j : ℕ) → length words ≤ j → first_of words j ≡ map literal_of words
+first_all words j l = ap (map literal_of) (take_all j words l)
 
 -- one turn of the machine's loop
-pub mark_step : (cells xs ys : List ℕ) (i j : ℕ) → length cells ≡ cell_count → i < lane_count →
-    row_cells * i + 1 + j < cell_count → literal_at cells i j < row_count → length ys ≡ occurrence_cells →
-    Marked i (first_of cells i j) xs ys →
-    let at = literal_at cells i j * row_words + i / lanes in
-    Marked i (first_of cells i (j + 1)) xs (set ys at (bit_or (get_or ys at 0) (1 * 2 ^ (i % lanes) % 2 ^ lanes)))
-mark_step cells xs ys i j size room within row size' m =
-    rw (first_more cells i j size within, one_shl lanes (i % lanes) (omega arith))
-    (marked_more i (literal_at cells i j) (first_of cells i j) xs ys row room size' m)
+pub mark_step : (words xs ys : List ℕ) (i j : ℕ) → i < lane_count → j < length words → get_or words j 0 < row_count →
+    length ys ≡ occurrence_cells → Marked i (first_of words j) xs ys →
+    let at = get_or words j 0 * row_words + i / lanes in
+    Marked i (first_of words (j + 1)) xs (set ys at (bit_or (get_or ys at 0) (1 * 2 ^ (i % lanes) % 2 ^ lanes)))
+mark_step words xs ys i j room within row size m =
+    rw (first_more words j within, one_shl lanes (i % lanes) (omega arith))
+    (marked_more i (get_or words j 0) (first_of words j) xs ys row room size m)
 
 -- ---- the variables of a clause
 
@@ -187,12 +193,12 @@ unfolding names some
 named_none m e v h = rw e (bit_zero v)
 
 -- one turn of the machine's loop: `own` has the literal's variable
-pub named_step : (cells : List ℕ) (i j m own m' : ℕ) → length cells ≡ cell_count → row_cells * i + 1 + j < cell_count →
-    2 ≤ literal_at cells i j → NamedBy m (first_of cells i j) → own ≡ toggle 0 (literal_at cells i j / 2 - 1) →
-    ((v : ℕ) → v < width → bit m' v ≡ (bit m v || bit own v)) → NamedBy m' (first_of cells i (j + 1))
-unfolding toggle literal_of
-named_step cells i j m own m' size within known named e joined v h =
-    let x = literal_at cells i j in
+pub named_step : (words : List ℕ) (j m own m' : ℕ) → j < length words → 2 ≤ get_or words j 0 → NamedBy m (first_of words j) →
+    own ≡ toggle 0 (bit_of (literal_of (get_or words j 0))) →
+    ((v : ℕ) → v < width → bit m' v ≡ (bit m v || bit own v)) → NamedBy m' (first_of words (j + 1))
+unfolding toggle literal_of bit_of
+named_step words j m own m' within known named e joined v h =
+    let x = get_or words j 0 in
     let here : eqb (x / 2 - 1) v ≡ eqb (x / 2) (v + 1) = same_test (x / 2 - 1) v (x / 2) (v + 1) (λ q. omega arith) (λ q. omega arith) in
     joined v h
-    ∙ rw (first_more cells i j size within, names_snoc (v + 1) (first_of cells i j), named v h, e, xor_zero_l (2 ^ (x / 2 - 1)), bit_power, here)
+    ∙ rw (first_more words j within, names_snoc (v + 1) (first_of words j), named v h, e, xor_zero_l (2 ^ (x / 2 - 1)), bit_power, here)

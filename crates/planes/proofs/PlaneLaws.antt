@@ -173,24 +173,21 @@ module _ (xs : List ℕ) (w : ℕ) (p : Planes) where
 
 -- Of so many words the first w hold what P says of them in the first counter, and Q in the second: the invariant of a loop that
 -- stores word by word.
-pub record FirstWords (P Q : ℕ → Planes → Type 0) (all : ℕ) (xs : List ℕ) (w : ℕ) : Type 0 where
-  pub within : w ≤ all
+pub record FirstWords (P Q : ℕ → Planes → Type 0) (xs : List ℕ) (w : ℕ) : Type 0 where
   pub size : length xs ≡ plane_cells
   pub first : (v : ℕ) → v < w → P v (planes_at xs (first_counter + v))
   pub second : (v : ℕ) → v < w → Q v (planes_at xs (second_counter + v))
 
-pub words_none : {P Q : ℕ → Planes → Type 0} {all : ℕ} {xs : List ℕ} → length xs ≡ plane_cells → FirstWords P Q all xs 0
-words_none size =
-    record { within = omega arith; size = size; first = λ v l. absurd (omega arith); second = λ v l. absurd (omega arith) }
+pub words_none : {P Q : ℕ → Planes → Type 0} {xs : List ℕ} → length xs ≡ plane_cells → FirstWords P Q xs 0
+words_none size = record { size = size; first = λ v l. absurd (omega arith); second = λ v l. absurd (omega arith) }
 
 -- with word w stored in both counters
-pub words_step : {P Q : ℕ → Planes → Type 0} {all w : ℕ} {xs ys zs : List ℕ} {p q : Planes} →
-    FirstWords P Q all xs w → w < all → all ≤ row_words →
+pub words_step : {P Q : ℕ → Planes → Type 0} {w : ℕ} {xs ys zs : List ℕ} {p q : Planes} →
+    FirstWords P Q xs w → w < row_words →
     Stored (first_counter + w) p xs ys → P w p → Stored (second_counter + w) q ys zs → Q w q →
-    FirstWords P Q all zs (w + 1)
-words_step {P} {Q} {all} {w} {xs} {ys} {zs} {p} {q} f l r a here b here' =
+    FirstWords P Q zs (w + 1)
+words_step {P} {Q} {w} {xs} {ys} {zs} {p} {q} f l a here b here' =
     record {
-      within = omega arith;
       size = b.size;
       first = below_more (λ v. P v (planes_at zs (first_counter + v))) w
           (λ v h. rw (other (first_counter + v) (omega arith) (λ e. omega arith) (λ e. omega arith)) (f.first v h))

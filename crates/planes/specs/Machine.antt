@@ -1,9 +1,10 @@
 -- What the machine's words hold: two numbers of each clause crosswise, 64 clauses to a word, whatever is counted; and which clauses
 -- hold a literal, and which variables a clause names.
-use Rattle.std.specs.Prelude.{◌≡◌, Bool, true, false, not, ◌&&◌, ◌||◌, List, ℕ, zero, suc, ◌+◌, ◌-◌, ◌*◌, ◌/◌, ◌%◌, ◌^◌, ◌≤◌, ◌<◌, eqb, leb, ltb, length, get_or}
+use Rattle.std.specs.Prelude.{◌≡◌, Bool, true, false, not, ◌&&◌, ◌||◌, List, ℕ, zero, suc, ◌+◌, ◌-◌, ◌*◌, ◌/◌, ◌%◌, ◌^◌, ◌≤◌, ◌<◌, eqb, leb, ltb, length, get_or, Option, Some, None, MatchOption}
 use Rattle.words.specs.Lists.{every}
 use Rattle.words.specs.Bits.{bit, width}
 use Rattle.words.proofs.BitLaws.{digit}
+use Rattle.formula.specs.declared.literal.Literal.{Literal}
 use Rattle.formula.specs.Formula.{Clause, names}
 use Rattle.formula.specs.Counts.{sign_count, sign_word, holds, Steps}
 use Rattle.formula.specs.Machine.{Table, clause_at, held}
@@ -28,6 +29,11 @@ lane_count = lanes * row_words
 -- the rows of the occurrence table, one for each word of a literal; the words 0 and 1 stand for no literal
 abbrev pub row_count : ℕ
 row_count = 2 * width + 2
+
+-- the word of a literal, and 0 where there is none
+abbrev pub word_of : Option Literal → ℕ
+word_of None = 0
+word_of (Some l) = l.word
 
 -- The rows come first in the table, then two words for each clause: the set of its variables.
 abbrev pub sets_from : ℕ
@@ -90,6 +96,10 @@ pub record First (i k : ℕ) (test : ℕ → Bool) (r : ℕ) : Type 0 where
   pub before : (j : ℕ) → i ≤ j → j < r → test j ≡ false
   pub here : r < k → test r ≡ true
 
+-- The same of an answer: the number of a clause, or none.
+abbrev pub FirstFound : ℕ → ℕ → (ℕ → Bool) → Option ℕ → Type 0
+FirstFound i k test r = MatchOption r (First i k test k) (λ j. (j < k) × First i k test j)
+
 -- Tests of a clause's two numbers: the first is 0; both are; the first is 0 and the second at most 2; the first is 1 and the second 0.
 abbrev pub first_zero : ℕ → ℕ → Bool
 first_zero a b = eqb a 0
@@ -127,12 +137,6 @@ pub record Told (t : ℕ → ℕ → Bool) (planes : List ℕ) (q q' w z : ℕ) 
 -- lane i of the row of the literal with the word w
 unfoldable pub lane : List ℕ → ℕ → ℕ → Bool
 lane occ w i = bit (get_or occ (w * row_words + i / lanes) 0) (i % lanes)
-
--- The table holds k clauses, over no more variables than an assignment has room for.
-pub record Readable (k : ℕ) (cells : List ℕ) : Type 0 where
-  pub n : ℕ
-  pub small : n ≤ width
-  pub table : Table n k cells
 
 -- the set of variables of clause i
 unfoldable pub set_at : List ℕ → ℕ → ℕ

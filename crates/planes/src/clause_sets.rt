@@ -1,37 +1,34 @@
 // The set of the variables of each clause, in the cells of the occurrence table after its rows.
-ghost use Rattle.std.specs.Prelude.{◌≡◌, ℕ, ◌<◌, length};
+ghost use Rattle.std.specs.Prelude.{◌≡◌, map, ℕ, ◌<◌, length, get_or};
 ghost use Rattle.words.specs.Machine.{set_of};
-ghost use Rattle.formula.specs.Machine.{length_at, literal_at, clause_at, IsLiteral, Row};
-ghost use Rattle.planes.specs.Machine.{lane_count, occurrence_cells, set_at, NamedBy, SetStored};
+ghost use Rattle.formula.specs.Formula.{literal_of};
+ghost use Rattle.formula.specs.Machine.{IsLiteral};
+ghost use Rattle.planes.specs.Machine.{lane_count, set_at, NamedBy, SetStored};
 
 use crate::{OCCURRENCES, SETS};
+use formula::Literal;
 use words::Set;
 
-// The variables of clause i.
-pub fn clause_set(cells: &[u32; formula::CELLS], i: usize) -> Set
-    requires row { Row cells.now i }
-    requires by_index { (j : ℕ) → j < length_at cells.now i → IsLiteral (literal_at cells.now i j) }
-    ensures { NamedBy (set_of result) (clause_at cells.now i) }
+// The variables of a clause, which is given by the words of its literals.
+pub fn clause_set(clause: &[u32]) -> Set
+    requires { (j : ℕ) → j < length clause.now → IsLiteral (get_or clause.now j 0) }
+    ensures { NamedBy (set_of result) (map literal_of clause.now) }
 {
-    let length = formula::length_at(cells, i);
-    let mut variables = Set::empty();
-    let mut j: u32 = 0;
-    while j < length {
-        let own = Set::empty().toggled(formula::literal_at(cells, i, j) / 2 - 1);
+    let mut variables = Set::zero();
+    for word in clause {
+        let literal = Literal { word: *word };
+        let own = Set::zero().toggled(literal.bit());
         variables = variables.united(own);
-        j += 1;
     }
     variables
 }
 
 pub fn put_set(occ: &mut [u64; OCCURRENCES], i: usize, variables: Set)
-    requires i_lt_lane_count { i < lane_count }
-    requires occ_len { length occ.old ≡ occurrence_cells }
-    ensures occ_len_2 { length occ.new ≡ occurrence_cells }
-    ensures set_stored { SetStored i (set_of variables) occ.old occ.new }
+    requires { i < lane_count }
+    ensures { SetStored i (set_of variables) occ.old occ.new }
 {
-    occ[SETS + 2 * i] = variables.low;
-    occ[SETS + 2 * i + 1] = variables.high;
+    occ[SETS + 2 * i] = (variables.bits % (1u128 << 64)) as u64;
+    occ[SETS + 2 * i + 1] = (variables.bits >> 64) as u64;
 }
 
 pub fn set_at(occ: &[u64; OCCURRENCES], i: usize) -> Set
@@ -39,7 +36,6 @@ pub fn set_at(occ: &[u64; OCCURRENCES], i: usize) -> Set
     ensures { set_of result ≡ set_at occ.now i }
 {
     Set {
-        low: occ[SETS + 2 * i],
-        high: occ[SETS + 2 * i + 1],
+        bits: u128::from(occ[SETS + 2 * i + 1]) << 64 | u128::from(occ[SETS + 2 * i]),
     }
 }

@@ -1,7 +1,7 @@
 -- The laws of the loop over the balls: the planes move from centre to centre, one toggle after the other.
-use Rattle.std.specs.Prelude.{◌≡◌, refl, Bool, true, not, List, ℕ, zero, suc, ◌+◌, ◌/◌, ◌^◌, ◌≤◌, ◌<◌, length}
+use Rattle.std.specs.Prelude.{◌≡◌, refl, Bool, true, not, List, ℕ, zero, suc, ◌+◌, ◌^◌, ◌≤◌, ◌<◌, length}
 use Rattle.std.proofs.Math.Path.{sym}
-use Rattle.std.proofs.Common.{◌∙◌, subst, ⊎_elim, lt_of_not-le, eq-or-lt_of_le, div-lt_iff_lt-mul, le-div_iff_mul-le, one-mul, arith, pow_pos}
+use Rattle.std.proofs.Common.{◌∙◌, subst, ⊎_elim, lt_of_not-le, eq-or-lt_of_le, arith, pow_pos}
 use Rattle.std.proofs.Math.Bool.{false, and-true}
 use Rattle.words.specs.Lists.{every}
 use Rattle.words.proofs.ListLaws.{in_some}
@@ -16,7 +16,7 @@ use Rattle.formula.proofs.HeldLaws.{held_fails}
 use Rattle.tree.specs.Explore.{none, plus, try, call, explore}
 use Rattle.tree.specs.declared.Found.{Found}
 use Rattle.tree.specs.declared.Found.TheVariants.{None}
-use Rattle.tree.specs.Budget.{Answer}
+use Rattle.tree.specs.Budget.{Answer, clear, spent}
 use Rattle.tree.specs.Budget.{settle}
 use Rattle.tree.proofs.BudgetLaws.{none_made}
 use Rattle.tree.specs.Legs.{progress, turn}
@@ -24,7 +24,7 @@ use Rattle.tree.proofs.LegLaws.{leg_from_lem, leg_ends, leg_goes_on}
 use Rattle.tree.specs.Machine.{answer_in}
 use Rattle.planes.specs.declared.Kind.TheVariants.{Both}
 use Rattle.planes.specs.Machine.{plane_cells, First, test_of, wanted}
-use Rattle.search.specs.declared.balls.Progress.{Progress}
+use Rattle.words.specs.declared.Assignment.{Assignment}
 use Rattle.ball.specs.declared.path.Path.{Path}
 use Rattle.ball.specs.Ball.{State, reading, is_true, is_dead, ball_tree, ball_search}
 use Rattle.search.specs.Run.{Block, Search, ball, centre_at, centre_count, summed_radius, leg_of}
@@ -33,7 +33,7 @@ use Rattle.ball.proofs.RuleLaws.{rule_dead}
 use Rattle.ball.proofs.ForcedLaws.{dead_centred, standing_centre}
 use Rattle.search.proofs.CallLaws.{ball_some}
 use Rattle.ball.specs.Machine.{state_in, centred, call_from, Shows, Standing, Forces, Toggles}
-use Rattle.search.specs.Machine.{Moves, Reaching, search_in, balls_from, progress_in, Stops, Before}
+use Rattle.search.specs.Machine.{Moves, Reaching, search_in, balls_from, Before}
 
 -- ---- one bit
 
@@ -123,18 +123,6 @@ path_stands {k} {cells} {m = m} table reach some s e b q z forces =
 
 -- ---- the balls
 
--- where the number of a centre leaves nothing, there is a ball with that number, and otherwise there is none
-module _ (bs : List Block) (i left : ℕ) (some : 0 < centre_count bs) (e : left ≡ i / centre_count bs) where
-  pub ball_there : left ≡ 0 → i < centre_count bs
-  ball_there z =
-      let bound = (div-lt_iff_lt-mul {k = centre_count bs} {x = i} {y = 1} some).0 (omega arith) in
-      omega (arith, one-mul (centre_count bs))
-
-  ball_past : (left ≡ 0 → ⊥) → centre_count bs ≤ i
-  ball_past z =
-      let bound = (le-div_iff_mul-le {k = centre_count bs} {x = 1} {y = i} some).0 (omega arith) in
-      omega (arith, one-mul (centre_count bs))
-
 module _ (k : ℕ) (cells : List ℕ) (bs : List Block) where
   abbrev q : Search
   q = search_in k cells bs
@@ -152,21 +140,25 @@ module _ (k : ℕ) (cells : List ℕ) (bs : List Block) where
         record { size = e; shows = h; below = pow_pos n; each = omega arith; enough = omega arith; same = refl }
 
     module _ (planes : List ℕ) (m calls i : ℕ) (b : Before q k cells planes n m start budget calls i) where
-      pub before_end : (left : ℕ) → 0 < centre_count bs → left ≡ i / centre_count bs → (left ≡ 0 → ⊥) →
-          progress (Answer.none calls) (centre_count bs) ≡ leg_of q budget start
+      pub before_end : centre_count bs ≤ i → progress (Answer.none calls) (centre_count bs) ≡ leg_of q budget start
       unfolding balls_from search_in leg_of
-      before_end left some e z =
-          sym (leg_ends (ball q) budget (centre_count bs) calls i (ball_past bs i left some e z)) ∙ b.same ∙ sym (leg_from_lem _ _ _ _)
+      before_end past =
+          sym (leg_ends (ball q) budget (centre_count bs) calls i past) ∙ b.same ∙ sym (leg_from_lem _ _ _ _)
 
       module _ (r : Found) (inside : i < centre_count bs) (gave : answer_in r ≡ settle budget calls (ball q i)) where
         onwards : turn (centre_count bs) i calls (answer_in r) (λ d. balls_from q budget d (i + 1)) ≡ balls_from q budget 0 start
         unfolding balls_from search_in
         onwards = rw gave (sym (leg_goes_on (ball q) budget (centre_count bs) calls i inside)) ∙ b.same
 
-        pub before_stops : (p : Progress) → Stops calls i r p → ((made : ℕ) → r ≡ None made → ⊥) →
-            progress_in (centre_count bs) p ≡ leg_of q budget start
-        unfolding balls_from search_in leg_of
-        before_stops p h other = h.ends (centre_count bs) _ other ∙ onwards ∙ sym (leg_from_lem _ _ _ _)
+        -- Where a ball does not find nothing the leg ends at it.
+        pub before_clear : (a : Assignment) (made : ℕ) → r ≡ Found.Clear a made →
+            progress (clear (bits_of a) made) (centre_count bs) ≡ leg_of q budget start
+        unfolding balls_from search_in leg_of turn answer_in
+        before_clear a made e = rw e at onwards ∙ sym (leg_from_lem _ _ _ _)
+
+        pub before_spent : (made : ℕ) → r ≡ Found.Spent made → progress (spent calls) i ≡ leg_of q budget start
+        unfolding balls_from search_in leg_of turn answer_in
+        before_spent made e = rw e at onwards ∙ sym (leg_from_lem _ _ _ _)
 
         pub before_next : (made : ℕ) → r ≡ None made → (planes' : List ℕ) (m' : ℕ) → length planes' ≡ plane_cells →
             Shows k cells (centred m') planes' → m' < 2 ^ n → Before q k cells planes' n m' start budget made (i + 1)

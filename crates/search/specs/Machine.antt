@@ -1,56 +1,49 @@
 -- What the search machine is given and what it answers, read as the definitions.
-use Rattle.std.specs.Prelude.{◌≡◌, false, cond, List, [], ◌∷◌, ◌++◌, ℕ, ◌+◌, ◌-◌, ◌*◌, ◌/◌, ◌%◌, ◌^◌, ◌≤◌, ◌<◌, min, length, get_or, take, replicate, eqb}
-use Rattle.words.specs.Bits.{width}
+use Rattle.std.specs.Prelude.{◌≡◌, false, cond, Option, MatchOption, List, [], ◌∷◌, ◌++◌, ℕ, ◌+◌, ◌-◌, ◌*◌, ◌/◌, ◌%◌, ◌^◌, ◌≤◌, ◌<◌, eqb, length, get_or, replicate}
+use Rattle.words.specs.declared.Assignment.{Assignment}
 use Rattle.words.specs.Machine.{bits_of}
 use Rattle.formula.specs.Machine.{held, clause_at}
-use Rattle.tree.specs.declared.Found.{Found}
-use Rattle.tree.specs.declared.Found.TheVariants.{None}
-use Rattle.tree.specs.Budget.{Answer, clear, spent}
+use Rattle.formula.specs.declared.sheet.Sheet.{Sheet}
+use Rattle.tree.specs.Budget.{clear, none, spent}
 use Rattle.tree.specs.Legs as Legs
 use Rattle.tree.proofs.LegLaws.{leg_from}
-use Rattle.tree.specs.Machine.{answer_in}
 use Rattle.planes.specs.Machine.{plane_cells}
-use Rattle.search.specs.declared.balls.Progress.{Progress}
 use Rattle.ball.specs.Ball.{is_dead, rule}
 use Rattle.ball.specs.Machine.{centred, Ready, Shows, call_from}
-use Rattle.search.specs.Run.{Block, Search, plan, blocks, summed_radius, centre_at, ball, centre_count}
-use Rattle.search.specs.declared.centre.Layout.{Layout}
-use Rattle.search.specs.declared.centre.Partial.{Partial}
-use Rattle.code.specs.Machine.{code_cells}
+use Rattle.ball.specs.declared.ball.Ball.{Ball}
 use Rattle.code.specs.Code.{code}
+use Rattle.code.specs.declared.plan.Plan as Code
+use Rattle.search.specs.Run.{Plan, Block, Search, plan, block_of, short_block, blocks, summed_radius, centre_at, ball, centre_count}
+use Rattle.search.specs.declared.balls.Progress.{Progress}
+use Rattle.search.specs.declared.balls.Progress.TheVariants.{Clear, None, Spent}
+use Rattle.search.specs.declared.block_code.BlockCode.{BlockCode}
+use Rattle.search.specs.declared.codes.Codes.{Codes}
+use Rattle.search.specs.declared.partial.Partial.{Partial}
 
 -- ---- the blocks and their centres
 
--- the first `count` cells are the code
-unfoldable pub block_in : ℕ → ℕ → ℕ → List ℕ → Block
-block_in size radius count cells = record { size = size; radius = radius; code = take count cells }
+-- the plan that the machine's is
+abbrev pub plan_in : Code.Plan → Plan
+plan_in p = plan p.size p.radius
 
-unfoldable pub last_in : Layout → List ℕ → List Block
-last_in l cells = cond (eqb l.last 0) [] (block_in l.last (min l.radius l.last) l.last_count cells ∷ [])
+-- the block that a code is for
+abbrev pub block_in : BlockCode → Block
+block_in b = block_of code b.plan.size b.plan.radius
 
--- the blocks that a layout and the cells of its two codes stand for
-unfoldable pub blocks_in : Layout → List ℕ → List ℕ → List Block
-blocks_in l whole last = replicate l.whole (block_in l.size l.radius l.count whole) ++ last_in l last
+-- the blocks that codes are for: those of the plan
+abbrev pub blocks_of : Codes → List Block
+blocks_of c = blocks code (plan_in c.plan) c.n
 
--- The first `count` cells are words of the length given.
-pub record Coded (size count : ℕ) (cells : List ℕ) : Type 0 where
-  pub some : 0 < count
-  pub held : count ≤ length cells
-  pub below : (k : ℕ) → k < count → get_or cells k 0 < 2 ^ size
-
--- The layout fits an assignment, and the cells of each block that there is are a code.
-pub record Laid (l : Layout) (whole last : List ℕ) : Type 0 where
-  pub size : 0 < l.size
-  pub fits : l.whole * l.size + l.last ≤ width
-  pub wholes : 0 < l.whole → Coded l.size l.count whole
-  pub lasts : 0 < l.last → Coded l.last l.last_count last
+-- the shorter last one, if there is one
+abbrev pub last_of : Codes → List Block
+last_of c = cond (eqb (c.n % c.plan.size) 0) [] (short_block code (c.n % c.plan.size) c.plan.radius ∷ [])
 
 -- The partial centre q has one block more than p: a word of the code goes above the bits so far.
-pub record Joined (size count : ℕ) (cells : List ℕ) (p q : Partial) : Type 0 where
-  pub reads : bits_of q.assignment ≡ get_or cells (p.left % count) 0 * 2 ^ p.shift + bits_of p.assignment
+pub record Joined (b : BlockCode) (p q : Partial) : Type 0 where
+  pub reads : bits_of q.assignment ≡ get_or (code b.plan.size b.plan.radius) (p.left % b.count) 0 * 2 ^ p.shift + bits_of p.assignment
   pub below : bits_of q.assignment < 2 ^ q.shift
-  pub shift : q.shift ≡ p.shift + size
-  pub left : q.left ≡ p.left / count
+  pub shift : q.shift ≡ p.shift + b.plan.size
+  pub left : q.left ≡ p.left / b.count
 
 -- The partial centre p, with the blocks bs still to come, leads to centre i of all blocks.
 pub record Towards (all : List Block) (i : ℕ) (bs : List Block) (p : Partial) : Type 0 where
@@ -59,43 +52,17 @@ pub record Towards (all : List Block) (i : ℕ) (bs : List Block) (p : Partial) 
   pub below : bits_of p.assignment < 2 ^ p.shift
 
 -- The same after j of the whole blocks.
-pub record Midway (l : Layout) (whole last : List ℕ) (i j : ℕ) (p : Partial) : Type 0 where
-  pub within : j ≤ l.whole
-  pub shift : p.shift ≡ j * l.size
-  pub towards : Towards (blocks_in l whole last) i
-      (replicate (l.whole - j) (block_in l.size l.radius l.count whole) ++ last_in l last) p
+pub record Midway (c : Codes) (i j : ℕ) (p : Partial) : Type 0 where
+  pub within : j ≤ c.n / c.plan.size
+  pub shift : p.shift ≡ j * c.plan.size
+  pub towards : Towards (blocks_of c) i
+      (replicate (c.n / c.plan.size - j) (block_of code c.plan.size c.plan.radius) ++ last_of c) p
 
--- The first r cells are the code of length t and radius s.
-pub record Words (t s r : ℕ) (cells : List ℕ) : Type 0 where
-  pub count : r ≡ length (code t s)
-  pub first : take r cells ≡ code t s
-  pub held : r ≤ length cells
-
--- the code of a block, where there is one
-pub record BlockCode (some t s r : ℕ) (cells : List ℕ) : Type 0 where
-  pub size : length cells ≡ code_cells
-  pub words : 0 < some → Words t s r cells
-
--- What the balls are laid out by: the layout of n variables, with its codes.
-pub record Laying (n : ℕ) (l : Layout) (whole last : List ℕ) : Type 0 where
-  pub wholes : length whole ≡ code_cells
-  pub lasts : length last ≡ code_cells
-  pub laid : Laid l whole last
-  pub variables : n ≡ l.whole * l.size + l.last
-  pub reach : l.whole * l.radius + min l.radius l.last ≤ width
-
--- and its blocks are the plan's
-pub record LaidOut (n size radius : ℕ) (l : Layout) (whole last : List ℕ) : Type 0 where
-  pub laying : Laying n l whole last
-  pub same : blocks_in l whole last ≡ blocks code (plan size radius) n
-
--- M of a layout and its codes
-abbrev pub extent : Layout → List ℕ → List ℕ → ℕ
-extent l whole last = centre_count (blocks_in l whole last)
-
--- the same by the numbers of their words
-unfoldable pub centres_in : Layout → ℕ
-centres_in l = l.count ^ l.whole * cond (eqb l.last 0) 1 l.last_count
+-- Centre i of the blocks, an assignment of the n variables, or that there is none.
+abbrev pub CentreFound : Codes → ℕ → Option Assignment → Type 0
+CentreFound c i o =
+    MatchOption o (centre_count (blocks_of c) ≤ i)
+    (λ a. (i < centre_count (blocks_of c)) × (bits_of a ≡ centre_at (blocks_of c) i) × (bits_of a < 2 ^ c.n))
 
 -- so many centres or more are not searched in legs
 abbrev pub most_centres : ℕ
@@ -112,39 +79,34 @@ pub record Moves (k : ℕ) (occ : List ℕ) (m : ℕ) (planes : List ℕ) (m' : 
 unfoldable pub search_in : ℕ → List ℕ → List Block → Search
 search_in k cells bs = record { clauses = held k cells; rule = rule (held k cells); blocks = bs }
 
+-- the search of a sheet's clauses by codes
+abbrev pub search_by : Sheet → Codes → Search
+search_by s c = search_in s.count s.cells (blocks_of c)
+
 -- what the balls from i on give, where c calls are counted before them
 unfoldable pub balls_from : Search → ℕ → ℕ → ℕ → Legs.Progress
 balls_from q budget c i = leg_from (ball q) budget (centre_count q.blocks) c i
 
--- the ball that is next of E, where the machine says i: after clear and none that is E, whatever it says
-unfoldable pub next_in : (E i : ℕ) → Answer → ℕ
-next_in E i (clear m c) = E
-next_in E i (Answer.none c) = E
-next_in E i (spent c) = i
-
--- the machine's leg over E balls as the definition's
+-- the machine's leg over E balls as the definition's: E is next after clear and none
 unfoldable pub progress_in : ℕ → Progress → Legs.Progress
-progress_in E p = Legs.progress (answer_in p.found) (next_in E p.next (answer_in p.found))
-
--- Where a ball does not find nothing the leg ends at it, as `turn` has it.
-pub record Stops (calls i : ℕ) (found : Found) (r : Progress) : Type 0 where
-  pub ends : (E : ℕ) (onward : ℕ → Legs.Progress) → ((made : ℕ) → found ≡ None made → ⊥) →
-      progress_in E r ≡ Legs.turn E i calls (answer_in found) onward
+progress_in E (Clear a c) = Legs.progress (clear (bits_of a) c) E
+progress_in E (None c) = Legs.progress (none c) E
+progress_in E (Spent c i) = Legs.progress (spent c) i
 
 -- r flips give what the whole radius gives, at every centre; and where there are any, no clause is dead.
 pub record Reaching (k : ℕ) (cells : List ℕ) (radius r : ℕ) : Type 0 where
   pub same : (m : ℕ) → call_from k cells r (centred m) ≡ call_from k cells radius (centred m)
   pub alive : 0 < r → (m i : ℕ) → i < k → is_dead (centred m) (clause_at cells i) ≡ false
 
--- What the loop over the balls is given: the planes of the assignment 0, the layout with its codes, the flips of a ball, and the
--- number of the ball to start at.
-pub record Prepared (k : ℕ) (cells occ planes : List ℕ) (n : ℕ) (l : Layout) (whole last : List ℕ) (r i : ℕ) : Type 0 where
-  pub ready : Ready k cells occ
+-- What the loop over the balls is given: the planes of the assignment 0, a sheet with codes for its variables, the flips of a ball,
+-- and the number of the ball to start at.
+pub record Prepared (b : Ball) (c : Codes) (planes : List ℕ) (r i : ℕ) : Type 0 where
   pub size : length planes ≡ plane_cells
-  pub shows : Shows k cells (centred 0) planes
-  pub laying : Laying n l whole last
-  pub reach : Reaching k cells (summed_radius (blocks_in l whole last)) r
+  pub shows : Shows b.sheet.now.count b.sheet.now.cells (centred 0) planes
+  pub same : b.sheet.now.n ≡ c.n
+  pub reach : Reaching b.sheet.now.count b.sheet.now.cells (summed_radius (blocks_of c)) r
   pub start : i < 2 ^ 63
+  pub limit : b.budget < 2 ^ 32
 
 -- Before ball i of the search q, which started at the ball `start`: the planes are those of a centre m of n variables, each ball
 -- so far took a call, and the balls from i on give what those from `start` on give.

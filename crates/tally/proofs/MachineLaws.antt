@@ -1,37 +1,80 @@
 -- The laws that the code's proofs cite: one step of each loop, and each way through `recounted`, `begin` and `toggle`.
 use Rattle.std.proofs.Math.Path.{◌≡◌, refl, sym, ap}
 use Rattle.std.proofs.Common.{◌∙◌, add-one, arith, take-append-drop}
-use Rattle.std.specs.Prelude.{◌⊎◌, Bool, true, false, ℕ, zero, suc, ◌+◌, ◌-◌, ◌≤◌, ◌<◌, min, get_or, drop, set, replicate}
-use mathlib.Core.List.{List, ◌∷◌, ◌++◌, append_assoc}
+use Rattle.std.specs.Prelude.{◌⊎◌, Bool, true, false, cond, ◌||◌, eqb, ℕ, zero, suc, ◌+◌, ◌-◌, ◌/◌, ◌≤◌, ◌<◌, min, map, get_or, drop, set, replicate, Some, None, Ok, Err}
+use Rattle.std.specs.List.{find}
+use mathlib.Core.List.Memᴰ
+use Rattle.std.proofs.lemmas.Option.{same_Some, none-some}
+use mathlib.Core.List.{List, [], ◌∷◌, ◌++◌, append_assoc}
 use Rattle.std.proofs.Math.ListN.{length, take, length-set, drop_of_length-le}
 use Rattle.std.proofs.Math.Seq.{drop-cons, drop-set-lt, take-suc-set}
 use mir.Val.{bool_byte}
-use Rattle.words.specs.Lists.{count}
+use Rattle.words.specs.Lists.{In, some, keep, count}
 use Rattle.words.specs.Bits.{toggle, width}
 use Rattle.words.proofs.BitLaws.{digit}
-use Rattle.words.specs.declared.Refusal.{Refusal}
-use Rattle.formula.specs.Formula.{Clause, met, length_limit, clause_limit}
+use Rattle.words.specs.declared.Refused.{Refused}
+use Rattle.words.specs.declared.Reason.TheVariants.{NoSuchVariable}
+use Rattle.words.specs.Refusals.{number_of}
+use Rattle.formula.specs.Formula.{Literal, Clause, met, names, literal_of, clause_limit, WellFormedClause}
 use Rattle.formula.specs.Sheet.{Result, accepted, refused, parse}
-use Rattle.formula.specs.Machine.{IsLiteral, length_at, literal_at, held, SheetRead}
-use Rattle.formula.proofs.TableLaws.{row_known, length_held}
-use Rattle.formula.proofs.ReadingLaws.{sheet_accepted, sheet_refused}
-use Rattle.formula.specs.declared.Reading.{Reading}
-use Rattle.formula.specs.declared.Reading.TheVariants.{Accepted, Refused as Stopped}
-use Rattle.tally.specs.declared.Outcome.TheVariants.{Done, Refused}
-use Rattle.tally.specs.Tally.{Tally, tally_of, moved, recounted, renumber, recount, toggled, tally_begin, tally_toggle, left, NO_SUCH_VARIABLE}
+use Rattle.formula.specs.Machine.{IsLiteral, held}
+use Rattle.formula.proofs.TableLaws.{length_held}
+use Rattle.formula.proofs.CountLaws.{names?}
+use Rattle.words.proofs.CountLaws.{count_cons}
+use Rattle.formula.specs.declared.sheet.Sheet.{Sheet}
+use Rattle.formula.specs.Reading.{formula_of}
+use Rattle.tally.specs.Tally.{Tally, tally_of, moved, recounted, renumber, recount, toggled, tally_begin, tally_toggle, left}
 use Rattle.tally.proofs.TallyLaws.{count_met, count_unmet}
 use Rattle.tally.proofs.OperationLaws.{begin_declined, toggle_declined, begin_done, toggle_done, toggle_unknown}
-use Rattle.tally.specs.Machine.{outcome_of, Comes, Readable, Passed, Passing}
+use Rattle.tally.specs.Machine.{Comes, Passed, Passing}
 
 -- ---- the number of a clause
 
--- literal j of a clause that can be read
-module _ {cells : List ℕ} {i : ℕ} (r : Readable cells i) (j : ℕ) (h : j < length_at cells i) where
-  pub literal_inside : (i < clause_limit) × (j < length_limit)
-  literal_inside = (r.row.inside, omega (arith, r.row.short))
+-- word j stands for a literal of the clause,
+pub word_in : (ws : List ℕ) (j : ℕ) → j < length ws → In (literal_of (get_or ws j 0)) (map literal_of ws)
+word_in [] j h = absurd (omega arith)
+word_in (w ∷ ws) zero h = Memᴰ.head refl
+word_in (w ∷ ws) (suc j) h = Memᴰ.tail (word_in ws j (omega arith))
 
-  pub literal_known : IsLiteral (literal_at cells i j)
-  literal_known = row_known r.row width r.clause j h
+-- and such a word is a literal's.
+pub word_known : (ws : List ℕ) → WellFormedClause width (map literal_of ws) → (w : ℕ) → In (literal_of w) (map literal_of ws) → IsLiteral w
+unfolding literal_of
+word_known ws f w i = let v = f.known (literal_of w) i in (omega arith, omega arith)
+
+-- The literals that pass a test are counted word by word.
+pub word_counted : (p : Literal → Bool) (ws : List ℕ) (j : ℕ) → j < length ws →
+    count p (map literal_of (drop j ws)) ≡ digit (p (literal_of (get_or ws j 0))) + count p (map literal_of (drop (suc j) ws))
+word_counted p ws j h = ap (λ (vs : List ℕ). count p (map literal_of vs)) (drop-cons ws j 0 h) ∙ count_cons p _ _
+
+pub none_counted : (p : Literal → Bool) (ws : List ℕ) (j : ℕ) → length ws ≤ j → count p (map literal_of (drop j ws)) ≡ 0
+unfolding count keep
+none_counted p ws j h = ap (λ (vs : List ℕ). count p (map literal_of vs)) (drop_of_length-le ws {i = j} h)
+
+-- the first word that names v is of a literal that names it,
+abbrev Named : ℕ → List ℕ → ℕ → Type 0
+Named v ws w = In (literal_of w) (map literal_of ws) × (names? v (literal_of w) ≡ true)
+
+pub word_found : (v : ℕ) (ws : List ℕ) (w : ℕ) → Some w ≡ find (λ x. eqb (x / 2) v) ws → Named v ws w
+unfolding literal_of
+word_found v [] w h = absurd (none-some w (sym h))
+word_found v (x ∷ ws) w h = go (eqb (x / 2) v) refl h
+    (λ e. let (i, named) = word_found v ws w e in (Memᴰ.tail i, named))
+  where
+    go : (b : Bool) → eqb (x / 2) v ≡ b → Some w ≡ cond b (Some x) (find (λ y. eqb (y / 2) v) ws) →
+        (Some w ≡ find (λ y. eqb (y / 2) v) ws → Named v (x ∷ ws) w) → Named v (x ∷ ws) w
+    go true e h rest = let same : w ≡ x = same_Some w x h in rw same (Memᴰ.head refl, e)
+    go false e h rest = rest h
+
+-- and where there is none, no literal does.
+pub word_lacking : (v : ℕ) (ws : List ℕ) → None ≡ find (λ x. eqb (x / 2) v) ws → names v (map literal_of ws) ≡ false
+unfolding names some literal_of
+word_lacking v [] h = refl
+word_lacking v (x ∷ ws) h = go (eqb (x / 2) v) h (word_lacking v ws)
+  where
+    go : (b : Bool) → None ≡ cond b (Some x) (find (λ y. eqb (y / 2) v) ws) →
+        (None ≡ find (λ y. eqb (y / 2) v) ws → names v (map literal_of ws) ≡ false) → (b || names v (map literal_of ws)) ≡ false
+    go true h rest = absurd (none-some _ h)
+    go false h rest = rest h
 
 -- a truth value as the machine adds it
 pub byte_digit : (b : Bool) → bool_byte b ≡ digit b
@@ -97,38 +140,40 @@ module _ (g : Clause → ℕ → ℕ) (cs : List Clause) (xs₀ : List ℕ) (u�
 -- ---- the operations, one law for each way through them
 
 module _ (f : Tally → Result Tally) (t : Tally) where
-  comes_refused : (number place : ℕ) → f t ≡ refused number place → Comes f t (Refused (record { number = number; place = place })) t
-  unfolding outcome_of left
-  comes_refused number place e = record { answer = rw e; tally = rw e }
+  comes_refused : (x : Refused) → refused (number_of x.reason) x.place ≡ f t → Comes f t (Err x) t
+  unfolding left
+  comes_refused x e = record { answer = e; tally = rw (← e) }
 
-  comes_done : (u : Tally) → f t ≡ accepted u → Comes f t Done u
-  unfolding outcome_of left
-  comes_done u e = record { answer = rw e; tally = rw e }
+  comes_done : (u : Tally) → f t ≡ accepted u → Comes f t (Ok tt) u
+  unfolding left
+  comes_done u e = record { answer = sym e; tally = rw e }
 
-module _ (s : List ℕ) (r : Reading) (cells : List ℕ) (h : SheetRead s r cells) (t : Tally) where
+module _ (s : List ℕ) (t : Tally) where
   -- the sheet's refusal,
-  module _ (q : Refusal) (e : r ≡ Stopped q) where
-    pub begin_stops : Comes (λ _. tally_begin s) t (Refused q) t
-    begin_stops = comes_refused _ t _ _ (begin_declined s _ _ (sheet_refused s r cells h q e))
+  module _ (x : Refused) (e : refused (number_of x.reason) x.place ≡ parse s) where
+    pub begin_stops : Comes (λ _. tally_begin s) t (Err x) t
+    begin_stops = comes_refused _ t x (sym (begin_declined s _ _ (sym e)))
 
-    pub toggle_stops : (v : ℕ) → Comes (tally_toggle s v) t (Refused q) t
-    toggle_stops v = comes_refused _ t _ _ (toggle_declined s _ _ (sheet_refused s r cells h q e) v t)
+    pub toggle_stops : (v : ℕ) → Comes (tally_toggle s v) t (Err x) t
+    toggle_stops v = comes_refused _ t x (sym (toggle_declined s _ _ (sym e) v t))
 
-  module _ (b n k : ℕ) (e : r ≡ Accepted b n k) where
-    read : parse s ≡ accepted (record { batch = b; n = n; clauses = held k cells })
-    read = (sheet_accepted s r cells h b n k e).0
+  module _ (sheet : Sheet) (e : accepted (formula_of sheet) ≡ parse s) where
+    read : parse s ≡ accepted (formula_of sheet)
+    read = sym e
 
-    room : length (held k cells) ≤ clause_limit
-    room = rw (length_held k cells) (sheet_accepted s r cells h b n k e).1.room
+    abbrev cs : List Clause
+    cs = held sheet.count sheet.cells
+
+    room : length cs ≤ clause_limit
+    room = rw (length_held sheet.count sheet.cells) sheet.holds.room
 
     -- a tally that begins,
     pub begin_made : (w m : ℕ) → w ≡ m → m ≡ 0 → (xs : List ℕ) (u : ℕ) →
-        Passed (λ c x. count (met m) c) (held k cells) (replicate clause_limit 0) k xs u →
-        Comes (λ _. tally_begin s) t Done (record { assignment = w; met = xs; unmet = u })
+        Passed (λ c x. count (met m) c) cs (replicate clause_limit 0) sheet.count xs u →
+        Comes (λ _. tally_begin s) t (Ok tt) (record { assignment = w; met = xs; unmet = u })
     unfolding tally_of
     begin_made w m stored z xs u p =
-        let cs = held k cells in
-        let size : k ≡ length cs = sym (length_held k cells) in
+        let size : sheet.count ≡ length cs = sym (length_held sheet.count sheet.cells) in
         let same : ◌≡◌ {A = Tally} (record { assignment = w; met = xs; unmet = u }) (tally_of cs m) =
         λ i.
         record {
@@ -139,17 +184,18 @@ module _ (s : List ℕ) (r : Reading) (cells : List ℕ) (h : SheetRead s r cell
         comes_done _ t _ (begin_done s _ read ∙ ap accepted (sym (same ∙ ap (tally_of cs) z)))
 
     -- the refusal of a variable,
-    pub toggle_none : (v : ℕ) → (v ≡ 0) ⊎ (n < v) →
-        Comes (tally_toggle s v) t (Refused (record { number = NO_SUCH_VARIABLE; place = 0 })) t
-    toggle_none v w = comes_refused _ t _ _ (toggle_unknown s _ read v t w)
+    pub toggle_none : (v : ℕ) → (v ≡ 0) ⊎ (sheet.n < v) →
+        Comes (tally_toggle s v) t (Err (record { reason = NoSuchVariable; place = 0 })) t
+    unfolding number_of
+    toggle_none v w = comes_refused _ t _ (sym (toggle_unknown s _ read v t w))
 
     -- and the toggle.
-    pub toggle_made : (v : ℕ) → 1 ≤ v → v ≤ n → (w m : ℕ) → w ≡ m → m ≡ toggle t.assignment (v - 1) → (xs : List ℕ) (u : ℕ) →
-        Passed (moved m v) (held k cells) t.met t.unmet xs u →
-        Comes (tally_toggle s v) t Done (record { assignment = w; met = xs; unmet = u })
+    pub toggle_made : (v : ℕ) → 1 ≤ v → v ≤ sheet.n → (w m : ℕ) → w ≡ m → m ≡ toggle t.assignment (v - 1) → (xs : List ℕ) (u : ℕ) →
+        Passed (moved m v) cs t.met t.unmet xs u →
+        Comes (tally_toggle s v) t (Ok tt) (record { assignment = w; met = xs; unmet = u })
     unfolding toggled
     toggle_made v low high w m stored z xs u p =
-        let q : Passed (moved (toggle t.assignment (v - 1)) v) (held k cells) t.met t.unmet xs u = rw z at p in
-        let same : ◌≡◌ {A = Tally} (record { assignment = w; met = xs; unmet = u }) (toggled v (held k cells) t) =
+        let q : Passed (moved (toggle t.assignment (v - 1)) v) cs t.met t.unmet xs u = rw z at p in
+        let same : ◌≡◌ {A = Tally} (record { assignment = w; met = xs; unmet = u }) (toggled v cs t) =
         λ i. record { assignment = (stored ∙ z) i; met = q.met i; unmet = q.unmet i } in
         comes_done _ t _ (toggle_done s _ read v t low high ∙ ap accepted (sym same))

@@ -1,40 +1,33 @@
--- What the trial of all assignments answers. A clause is two cells of a table: the bits of its positive and of its negative variables.
-use Rattle.std.specs.Prelude.{ℕ, zero, suc, ◌+◌, ◌-◌, ◌*◌, ◌/◌, ◌%◌, ◌^◌, Bool, cond, not, ◌&&◌, List, [], ◌∷◌, map, ◌==◌, bit_and, count_ones, nat_le, slice_index}
-use Rattle.words.specs.Lists.{every, first, span}
+-- What the trial of all assignments answers. A clause is the bits of its positive and of its negative variables.
+use Rattle.std.specs.Prelude.{ℕ, zero, suc, ◌+◌, ◌-◌, ◌*◌, ◌/◌, ◌%◌, ◌^◌, Bool, not, ◌&&◌, List, Option, map, filter, find, fold, ◌==◌, bit_and, count_ones, nat_le}
+use Rattle.std.specs.List.{list_all, range_with_len}
+use Rattle.trials.specs.declared.brute.Clause.{Clause}
 
 -- no positive variable is true, and every negative one is
-unfoldable pub falsified : ℕ → ℕ → ℕ → Bool
-falsified m positive negative = bit_and positive m == 0 && bit_and negative m == negative
+abbrev pub falsified : ℕ → Clause → Bool
+falsified m c = bit_and c.positive m == 0 && bit_and c.negative m == c.negative
 
--- the assignment makes clause i true
-unfoldable pub true_at : ℕ → List ℕ → ℕ → Bool
-true_at m table i = not (falsified m (slice_index table (2 * i)) (slice_index table (2 * i + 1)))
-
--- and the table's first k clauses
-unfoldable pub meets_all : ℕ → List ℕ → ℕ → Bool
-meets_all m table k = every (true_at m table) (span 0 k)
+-- the assignment makes every clause true
+abbrev pub meets_all : ℕ → List Clause → Bool
+meets_all m clauses = list_all (λ c. not (falsified m c)) clauses
 
 -- the lowest n bits of x the other way round
 unfoldable pub reversed : ℕ → ℕ → ℕ
 reversed x zero = 0
 reversed x (suc v) = 2 * reversed x v + x / 2 ^ v % 2
 
-abbrev pub NO_MODEL : ℕ
-NO_MODEL = 2 ^ 32 - 1
+-- the assignments of n variables, in the order where variable 1, which has the lowest bit, weighs least
+abbrev pub assignments : ℕ → List ℕ
+assignments n = range_with_len 0 (2 ^ n)
 
--- The first assignment of n variables that does, where variable 1, which has the lowest bit, weighs most and 0 precedes 1.
-unfoldable pub first_model : ℕ → List ℕ → ℕ → ℕ
-first_model n table k = first (λ m. meets_all m table k) (map (λ x. reversed x n) (span 0 (2 ^ n))) NO_MODEL
+-- The first assignment of n variables that does, where variable 1 weighs most and 0 precedes 1.
+abbrev pub first_model : ℕ → List Clause → Option ℕ
+first_model n clauses = find (λ m. meets_all m clauses) (map (λ x. reversed x n) (assignments n))
 
--- what the models among some assignments have in common with x
-unfoldable pub common : List ℕ → ℕ → ℕ → List ℕ → ℕ
-common table k x [] = x
-common table k x (m ∷ ms) = common table k (cond (meets_all m table k) (bit_and x m) x) ms
+-- The variables that are 1 in every model of n variables; all where there is no model.
+abbrev pub in_all_models : ℕ → List Clause → ℕ
+in_all_models n clauses = fold bit_and (2 ^ 32 - 1) (filter (λ m. meets_all m clauses) (assignments n))
 
--- The variables that are 1 in every model of n variables.
-unfoldable pub in_all_models : ℕ → List ℕ → ℕ → ℕ
-in_all_models n table k = common table k (2 ^ 32 - 1) (span 0 (2 ^ n))
-
--- Each of the first k clauses has at most one positive variable.
-unfoldable pub every_horn : List ℕ → ℕ → Bool
-every_horn table k = every (λ i. nat_le (count_ones (slice_index table (2 * i))) 1) (span 0 k)
+-- Each clause has at most one positive variable.
+abbrev pub every_horn : List Clause → Bool
+every_horn clauses = list_all (λ c. nat_le (count_ones c.positive) 1) clauses

@@ -1,3 +1,2 @@
 -- What the contracts of the crate trials cite.
-pub mod Bounds
 pub mod Brute

@@ -1,12 +1,12 @@
 -- Laws of the words of an assignment: their bits, one bit toggled, where two differ, bits joined, and the words of a number. Each
 -- is one law over the word's index.
-use Rattle.std.specs.Prelude.{◌≡◌, refl, Bool, true, false, List, [], ◌∷◌, map, ℕ, zero, suc, ◌+◌, ◌-◌, ◌*◌, ◌/◌, ◌%◌, ◌^◌, ◌≤◌, ◌<◌, eqb, ltb, length, get_or, set}
-use Rattle.std.proofs.Common.{sym, ap, ◌∙◌, true≢false, add-zero, zero-add, mul_assoc, div-one, add-one, arith, lit<, ext_get_or, pow-add, pow_mono, pow_pos, shr-shr, ltb-true, ltb-false}
+use Rattle.std.specs.Prelude.{◌≡◌, refl, Bool, true, false, List, [], ◌∷◌, map, fold, reverse, ℕ, zero, suc, ◌+◌, ◌-◌, ◌*◌, ◌/◌, ◌%◌, ◌^◌, ◌≤◌, ◌<◌, eqb, ltb, length, get_or, set}
+use Rattle.std.proofs.Common.{sym, ap, ◌∙◌, true≢false, add-zero, zero-add, mul_assoc, div-one, add-one, arith, lit<, ext_get_or, pow-add, pow_mono, pow_pos, mod-lt, shr-shr, ltb-true, ltb-false}
 use Rattle.std.proofs.Math.Nat.{zero-div, div-eq_of_lt}
-use Rattle.std.specs.Int.Bits.{bit_xor, xor_zero_r, block_half, block_odd}
-use Rattle.std.proofs.lemmas.Nat.{xor_lt, xor_block, trailing_le}
+use Rattle.std.specs.Int.Bits.{bit_or, bit_xor, xor_zero_r, block_half, block_odd}
+use Rattle.std.proofs.lemmas.Nat.{or_shifted, xor_lt, xor_block, trailing_le}
 use Rattle.std.specs.Int.Count.{count_trailing_zeros, trailing_of_zero}
-use Rattle.std.proofs.Math.Pow.{pow-lt, split, high, low}
+use Rattle.std.proofs.Math.Pow.{pow-lt, shl_exact, split, high, low}
 use Rattle.words.specs.Lists.{span}
 use Rattle.words.specs.Bits.{bit, toggle, width, from_words, word_at}
 use Rattle.words.proofs.BitLaws.{bit_suc, bit_low, bit_zero, bit-bit_xor, xor_same, xor_equal, trailing_below, trailing_at}
@@ -18,14 +18,14 @@ pub words_count : (a : Assignment) → length (words_in a) ≡ word_count
 unfolding words_in
 words_count a = refl
 
--- and each of them has 32 bits where its fields do
-pub words_small : (a : Assignment) → (a.w0 < 2 ^ 32) × (a.w1 < 2 ^ 32) × (a.w2 < 2 ^ 32) × (a.w3 < 2 ^ 32) → Small (words_in a)
-unfolding words_in
-words_small a h zero = h.0
-words_small a h (suc zero) = h.1
-words_small a h (suc (suc zero)) = h.2
-words_small a h (suc (suc (suc zero))) = h.3
-words_small a h (suc (suc (suc (suc i)))) = lit< tt
+-- and each of them has 32 bits
+pub words_small : (a : Assignment) → Small (words_in a)
+unfolding words_in word_at
+words_small a zero = mod-lt _ (lit< tt)
+words_small a (suc zero) = mod-lt _ (lit< tt)
+words_small a (suc (suc zero)) = mod-lt _ (lit< tt)
+words_small a (suc (suc (suc zero))) = mod-lt _ (lit< tt)
+words_small a (suc (suc (suc (suc i)))) = lit< tt
 
 -- ---- bits
 
@@ -190,10 +190,6 @@ from_words_word (w ∷ ws) s (suc i) =
     let rest = sym (shr-shr m 32 (32 * i)) ∙ ap (λ (x : ℕ). x / 2 ^ (32 * i)) (high (from_words ws) 32 (s 0)) in
     ap (λ (n : ℕ). m / 2 ^ n % 2 ^ 32) at ∙ ap (λ (x : ℕ). x % 2 ^ 32) rest ∙ from_words_word ws (λ j. s (suc j)) i
 
-pub words_at : (a : Assignment) → Small (words_in a) → (i : ℕ) → word_at (bits_of a) i ≡ get_or (words_in a) i 0
-unfolding bits_of
-words_at a = from_words_word (words_in a)
-
 -- Words with the same number are the same words.
 pub from_words_same : (a b : List ℕ) → Lent a → Lent b → from_words a ≡ from_words b → a ≡ b
 from_words_same a b p q e =
@@ -215,6 +211,15 @@ pub words_number : (m : ℕ) → m < 2 ^ width → from_words (word_at m 0 ∷ w
 unfolding span
 words_number m h = from_words_at word_count 0 m h ∙ div-one m
 
+-- The words of an assignment are those of its number, and make it.
+module _ (a : Assignment) (fits : bits_of a < 2 ^ width) where
+  pub words_made : from_words (words_in a) ≡ bits_of a
+  unfolding words_in
+  words_made = words_number (bits_of a) fits
+
+  pub words_at : (i : ℕ) → word_at (bits_of a) i ≡ get_or (words_in a) i 0
+  words_at i = ap (λ (m : ℕ). word_at m i) (sym words_made) ∙ from_words_word (words_in a) (words_small a) i
+
 -- the words that are lent, one by one
 pub words_listed : (ws : List ℕ) → length ws ≡ word_count → ws ≡ get_or ws 0 0 ∷ get_or ws 1 0 ∷ get_or ws 2 0 ∷ get_or ws 3 0 ∷ []
 words_listed (a ∷ b ∷ c ∷ d ∷ []) e = refl
@@ -223,3 +228,28 @@ words_listed (a ∷ []) e = absurd (omega arith)
 words_listed (a ∷ b ∷ []) e = absurd (omega arith)
 words_listed (a ∷ b ∷ c ∷ []) e = absurd (omega arith)
 words_listed (a ∷ b ∷ c ∷ d ∷ x ∷ ws) e = absurd (omega arith)
+
+-- a word joined below a number
+joins : (a b : ℕ) → a < 2 ^ 96 → b < 2 ^ 32 → bit_or (a * 2 ^ 32 % 2 ^ width) b ≡ a * 2 ^ 32 + b
+joins a b p q = ap (λ (x : ℕ). bit_or x b) (shl_exact 96 32 width p lit) ∙ or_shifted a 32 b q
+  where
+    lit : 96 + 32 ≤ width
+    lit = omega arith
+
+-- The words that are lent, joined from the highest down, make their number.
+pub words_folded : (ws : List ℕ) → length ws ≡ word_count → Small ws →
+    fold (λ (m w : ℕ). bit_or (m * 2 ^ 32 % 2 ^ width) w) 0 (reverse ws) ≡ from_words ws
+unfolding from_words
+words_folded (a ∷ b ∷ c ∷ d ∷ []) e s =
+    let p = s 0 in
+    let q = s 1 in
+    let r = s 2 in
+    let t = s 3 in
+    let two : ℕ = d * 2 ^ 32 + c in
+    let three : ℕ = two * 2 ^ 32 + b in
+    rw (joins d c (omega arith) r, joins two b (omega arith) q, joins three a (omega arith) p) (omega arith)
+words_folded [] e s = absurd (omega arith)
+words_folded (a ∷ []) e s = absurd (omega arith)
+words_folded (a ∷ b ∷ []) e s = absurd (omega arith)
+words_folded (a ∷ b ∷ c ∷ []) e s = absurd (omega arith)
+words_folded (a ∷ b ∷ c ∷ d ∷ g ∷ ws) e s = absurd (omega arith)

@@ -2,3 +2,4 @@
 pub mod Lists
 pub mod Bits
 pub mod Machine
+pub mod Refusals

@@ -1,20 +1,23 @@
 -- What the machine's assignments and sets read as, and the words in which a host in C lends an assignment.
-use Rattle.std.specs.Prelude.{◌≡◌, Bool, true, List, [], ◌∷◌, ℕ, ◌+◌, ◌*◌, ◌/◌, ◌^◌, ◌≤◌, ◌<◌, length, get_or}
+use Rattle.std.specs.Prelude.{◌≡◌, Bool, true, List, [], ◌∷◌, ℕ, ◌/◌, ◌^◌, ◌≤◌, ◌<◌, length, get_or}
 use Rattle.words.specs.declared.Assignment.{Assignment}
-use Rattle.words.specs.declared.Set.{Set}
-use Rattle.words.specs.Bits.{bit, width, from_words}
+use Rattle.words.specs.Bits.{bit, width, word_at}
+
+-- a set of variables is an assignment: those whose bit is 1 are in it
+abbrev pub Set : Type 0
+Set = Assignment
+
+-- the number whose bits an assignment holds: bit v - 1 is the value of variable v
+abbrev pub bits_of : Assignment → ℕ
+bits_of a = a.bits
+
+-- the number of a set: bit v - 1 is set where variable v is in it
+abbrev pub set_of : Set → ℕ
+set_of s = bits_of s
 
 -- the words of an assignment
 unfoldable pub words_in : Assignment → List ℕ
-words_in a = a.w0 ∷ a.w1 ∷ a.w2 ∷ a.w3 ∷ []
-
--- the number whose bits an assignment holds: bit v - 1 is the value of variable v
-unfoldable pub bits_of : Assignment → ℕ
-bits_of a = from_words (words_in a)
-
--- the number of a set: bit v - 1 is set where variable v is in it
-unfoldable pub set_of : Set → ℕ
-set_of s = s.high * 2 ^ 64 + s.low
+words_in a = let m = bits_of a in word_at m 0 ∷ word_at m 1 ∷ word_at m 2 ∷ word_at m 3 ∷ []
 
 -- how many words of 32 bits a host lends
 abbrev pub word_count : ℕ

@@ -1,41 +1,30 @@
 -- `code::floor` answers by the definition, for every input: the floor as a quotient.
-use mathlib.Core.Path.{refl, sym, ap, ◌∙◌}
-use Prim.Native.Nat.{◌<◌}
-use native.Mathlib.Omega.{arith}
-use Rattle.code.specs.declared.Answer.TheVariants.{Number}
-use Rattle.code.specs.Operations.{floor_answer}
+use Rattle.std.proofs.Common.{ap, ◌∙◌}
+use Rattle.std.proofs.lemmas.Result.{err_from_is_err_and}
+use Rattle.code.specs.Operations.{given, floor_answer}
 use Rattle.code.proofs.OperationLaws.{measured_le}
-use Rattle.code.proofs.VolumeLaws.{volume_pos, volume_most}
-use Rattle.code.proofs.FloorLaws.{floor_quotient}
+use Rattle.code.proofs.VolumeLaws.{volume_pos}
+use Rattle.code.proofs.FloorLaws.{floor_ceil}
 use Rattle.code.proofs.floor.Goals as goal
-use Rattle.code.proofs.floor.Goals.{After-power}
 
-pub volume_at-size-requires : goal.volume_at-size-requires
-volume_at-size-requires c = measured_le _ _ (sym c.measured.ensures ∙ c.if-measured.true)
+pub returns-in_err-measured : goal.returns-in_err-measured
+unfolding floor_answer
+returns-in_err-measured c =
+    let p = err_from_is_err_and c.from_residual.result c.from_residual.ensures.1 in
+    let e = c.in_err-measured.ensures in
+    rw (p.1, p.2, e.0, e.1, e.2)
 
 pub power-requires : goal.power-requires
-power-requires c = (measured_le _ _ (sym c.measured.ensures ∙ c.if-measured.true)).0
+power-requires c = (measured_le _ _ c.in_ok-measured.ensures).0
 
-positive : (c : After-power) → 0 < c.volume_at-size.result
-positive c = rw c.volume_at-size.ensures (volume_pos _ _)
+pub volume_at-requires : goal.volume_at-requires
+volume_at-requires c = measured_le _ _ c.in_ok-measured.ensures
 
-pub overflow_sub-result : goal.overflow_sub-result
-overflow_sub-result c = omega (arith, positive c)
+pub div_ceil-requires : goal.div_ceil-requires
+div_ceil-requires c = rw c.volume_at.ensures (volume_pos _ _)
 
-pub overflow_add-result : goal.overflow_add-result
-overflow_add-result c =
-    let a = c.args in
-    omega (arith, c.volume_at-size.ensures, volume_most a.t a.s)
-
-pub nonzero_div-result : goal.nonzero_div-result
-nonzero_div-result c = positive c
-
-pub returns-then-measured : goal.returns-then-measured
+pub returns : goal.returns
 unfolding floor_answer
-returns-then-measured c =
-    rw (← c.measured.ensures, c.if-measured.true, c.volume_at-size.ensures, c.power.ensures.0)
-    (ap Number (floor_quotient c.args.t c.args.s))
-
-pub returns-else-measured : goal.returns-else-measured
-unfolding floor_answer
-returns-else-measured c = c.refuse.ensures ∙ rw (← c.measured.ensures, c.if-measured.false) refl
+returns c =
+    rw c.in_ok-measured.ensures
+    (ap given (c.div_ceil.ensures ∙ rw (c.power.ensures.0, c.volume_at.ensures) (floor_ceil c.args.t c.args.s)))

@@ -1,45 +1,87 @@
+-- `sift` meets its contract: a law for each way through a turn.
+use mathlib.Core.Path.{◌≡◌, ap, subst, ◌∙◌}
+use Prim.Native.Nat.{ℕ, suc, ◌-◌}
 use native.Mathlib.Omega.{arith}
-use Rattle.deletion.specs.MachineLaws.{sifting_start, sifting_room, sifting_end, sifting_numbered, rest_table, rest_coded, sifting_next, sifting_stop}
+use lib.ListN.{length}
+use mathlib.Core.List.{[]}
+use Rattle.formula.specs.Formula.{Formula}
+use Rattle.formula.specs.Reading.{formula_of}
+use Rattle.formula.proofs.TableLaws.{length_held}
+use Rattle.formula.proofs.ResultLaws.{passed_on}
+use Rattle.search.specs.Machine.{plan_in}
+use Rattle.decision.specs.Machine.{decision_in}
+use Rattle.deletion.specs.Core.{sift}
+use Rattle.deletion.specs.Machine.{Sifting}
+use Rattle.deletion.proofs.MachineLaws.{sifting_start, sifting_tries, sifting_balls, sifting_room, sifting_onward, sifting_ends, sifting_done, sifting_few}
 use Rattle.deletion.proofs.sift.Goals as goal
+use Rattle.deletion.proofs.sift.Goals.{In-loop-i}
+
+-- a turn at clause i - 1
+module _ (c : In-loop-i) where
+  abbrev f : Formula
+  f = formula_of c.args.sheet.now
+
+  all : length f.clauses ≡ c.args.sheet.now.count
+  all = length_held c.args.sheet.now.count c.args.sheet.now.cells
+
+  turn : Sifting (plan_in c.args.codes.now.plan) c.args.budget f c.loop-i.kept (formula_of c.loop-i.trial) (suc (c.loop-i.i - 1))
+  turn =
+      let up : c.loop-i.i ≡ suc (c.loop-i.i - 1) = omega (arith, c.loop-i-test.true) in
+      subst (λ (x : ℕ). Sifting (plan_in c.args.codes.now.plan) c.args.budget f c.loop-i.kept (formula_of c.loop-i.trial) x) up c.loop-i.invariant
 
 pub loop-i-init : goal.loop-i-init
-loop-i-init c = sifting_start _ _ _ _ _ _ _ c.requires.numbers_len c.requires.n_le_width.1
+loop-i-init c =
+    let f = formula_of c.args.sheet.now in
+    let all : length f.clauses ≡ c.args.sheet.now.count = length_held c.args.sheet.now.count c.args.sheet.now.cells in
+    let p = plan_in c.args.codes.now.plan in
+    rw c.none-kept.ensures (subst (λ (x : ℕ). Sifting p c.args.budget f [] f x) all (sifting_start p c.args.budget f))
 
-pub put_rows-requires : goal.put_rows-requires
-put_rows-requires c =
-    let s = c.loop-i.invariant in
-    record {
-      i_le_at = (omega (arith, sifting_room _ _ _ _ _ _ _ _ _ _ c.loop-i.invariant c.requires.n_le_width.1), s.room, s.size, s.full);
-      numbered = sifting_numbered _ _ _ _ _ _ _ _ _ _ s c.requires.n_le_width.1 c.loop-i-test.true;
-    }
-
-pub overflow_add-count : goal.overflow_add-count
-overflow_add-count c = omega (arith, sifting_room _ _ _ _ _ _ _ _ _ _ c.loop-i.invariant c.requires.n_le_width.1, c.loop-i.invariant.room)
+pub put_rest-requires : goal.put_rest-requires
+put_rest-requires c =
+    let t = (goal.at.put_rest-requires c).In-loop-i in
+    sifting_tries _ _ _ _ _ _ (turn t)
 
 pub decide_laid-rest-requires : goal.decide_laid-rest-requires
 decide_laid-rest-requires c =
-    let h = c.requires.n_le_width in
-    let s = c.loop-i.invariant in
-    let placed = c.put_rows.ensures in (
-      h.0,
-      rest_table _ _ _ _ _ _ _ _ _ _ s h.1 c.loop-i-test.true _ placed,
-      rest_coded _ _ _ _ _ _ _ _ _ _ s h.1 c.loop-i-test.true _ placed _ _ _ h.2,
-    )
+    let t = (goal.at.decide_laid-rest-requires c).In-loop-i in
+    let same : c.put_rest.new.trial.n ≡ c.args.sheet.now.n = ap (λ (g : Formula). g.n) c.put_rest.ensures in
+    λ balls. same ∙ c.requires (sifting_balls _ _ _ _ _ _ (turn t) (formula_of c.put_rest.new.trial) c.put_rest.ensures balls)
 
 pub turn-requires : goal.turn-requires
 turn-requires c =
-    let s = c.loop-i.invariant in
-    (omega (arith, sifting_room _ _ _ _ _ _ _ _ _ _ c.loop-i.invariant c.requires.n_le_width.1, c.loop-i-test.true), s.room, omega (arith, c.loop-i-test.true, s.inside, c.requires.n_le_width.1.room), s.size)
-
-pub returns-in-End : goal.returns-in-End
-returns-in-End c =
-    sifting_stop _ _ _ _ _ _ _ _ _ _ c.loop-i.invariant c.requires.n_le_width.1 c.loop-i-test.true _ c.put_rows.ensures _
-    c.decide_laid-rest.ensures _ _ c.turn.ensures c.in-End.is
+    let t = (goal.at.turn-requires c).In-loop-i in
+    let few = sifting_room _ _ _ _ _ _ (turn t) in
+    let room = c.args.sheet.now.holds.room in
+    (omega (arith, c.loop-i-test.true, c.loop-i.auto.i, room), omega (arith, few, all t, room))
 
 pub loop-i-preserved : goal.loop-i-preserved
+unfolding decision_in
 loop-i-preserved c =
-    sifting_next _ _ _ _ _ _ _ _ _ _ c.loop-i.invariant c.requires.n_le_width.1 c.loop-i-test.true _ c.put_rows.ensures _
-    c.decide_laid-rest.ensures _ _ c.turn.ensures _ c.in-Next.is
+    let t = (goal.at.loop-i-preserved c).In-loop-i in
+    sifting_onward _ _ _ _ _ _ (turn t) _ c.put_rest.ensures _ c.decide_laid-rest.ensures _ c.in_ok-turn.ensures
 
-pub returns : goal.returns
-returns c = sifting_end _ _ _ _ _ _ _ _ _ _ c.loop-i.invariant (omega arith)
+pub returns-in_err-turn-clause-sifted : goal.returns-in_err-turn-clause-sifted
+unfolding decision_in
+returns-in_err-turn-clause-sifted c =
+    let t = (goal.at.returns-in_err-turn-clause-sifted c).In-loop-i in
+    let a = c.args in
+    let (same, ends) = c.in_err-turn.ensures in
+    rw (passed_on c.from_residual.result _ c.from_residual.ensures.1, same)
+    (
+    sifting_ends _ _ _ _ _ _ (turn t) _ c.put_rest.ensures _ c.decide_laid-rest.ensures ends
+    ∙ ap (λ (x : ℕ). sift (plan_in a.codes.now.plan) a.budget (formula_of a.sheet.now) x []) (all t)
+    )
+
+pub returns-clause-sifted : goal.returns-clause-sifted
+returns-clause-sifted c =
+    let s = c.args.sheet.now in
+    let count : length (formula_of s).clauses ≡ s.count = length_held s.count s.cells in
+    let a = c.args in
+    sifting_done _ _ _ _ _ _ c.loop-i.invariant (omega arith)
+    ∙ ap (λ (x : ℕ). sift (plan_in a.codes.now.plan) a.budget (formula_of s) x []) count
+
+pub returns-clause-few : goal.returns-clause-few
+returns-clause-few c =
+    let s = c.args.sheet.now in
+    let count : length (formula_of s).clauses ≡ s.count = length_held s.count s.cells in
+    rw (← count) (sifting_few _ _ _ _ _ _ c.loop-i.invariant)

@@ -8,6 +8,6 @@ pub returns : goal.returns
 unfolding clash_to
 returns c =
     record {
-      answer = c.numbers.ensures ∙ ap reply_of c.find_core.ensures.decided;
+      answer = c.from.ensures ∙ ap reply_of c.find_core.ensures.decided;
       cells = c.find_core.ensures.holds;
     }

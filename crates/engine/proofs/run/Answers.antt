@@ -5,4 +5,4 @@ use Rattle.engine.proofs.run.Goals as goal
 
 pub returns : goal.returns
 unfolding reply_to
-returns c = c.numbers.ensures ∙ ap reply_of c.decide.ensures
+returns c = c.from.ensures ∙ ap reply_of c.decide.ensures

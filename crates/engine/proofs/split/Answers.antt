@@ -5,4 +5,4 @@ use Rattle.engine.proofs.split.Goals as goal
 
 pub returns : goal.returns
 unfolding split_to
-returns c = c.numbers.ensures ∙ ap reply_of c.decide_by_splitting.ensures
+returns c = c.from.ensures ∙ ap reply_of c.decide_by_splitting.ensures

@@ -1,6 +1,6 @@
 -- `read_clauses` is `take_clauses`. The loop's invariant is that of ClausesLaws.antt, with a law for each way out; the measure is
 -- the words left.
-use Prim.Native.Nat.{◌-◌}
+use Rattle.std.proofs.Common.{◌-◌}
 use Rattle.formula.specs.Sheet.{words}
 use Rattle.formula.proofs.ClausesLaws.{ClausesSofar}
 use Rattle.formula.proofs.read_clauses.Given as goal

@@ -1,34 +1,28 @@
 -- `read_header` is `take_header`: each way out is a law of WholeLaws.antt.
-use native.Mathlib.Omega.{arith}
-use Rattle.formula.proofs.ResultLaws.{number_limit}
+use Rattle.formula.specs.Machine.{kind_number, held}
+use Rattle.words.specs.Lists.{span}
+use Rattle.formula.proofs.ResultLaws.{passed_on}
 use Rattle.formula.proofs.WholeLaws.{stop_first, stop_second, stop_third, header_read}
 use Rattle.formula.proofs.read_header.Goals as goal
 
-pub returns-in-Refused : goal.returns-in-Refused
-returns-in-Refused c = stop_first _ _ c.take_number.ensures _ c.in-Refused.is
+pub returns-in_err-high-clause-header : goal.returns-in_err-high-clause-header
+unfolding kind_number
+returns-in_err-high-clause-header c cells =
+    rw (passed_on c.from_residual.result _ c.from_residual.ensures.1) (stop_first _ _ _ c.in_err-high.ensures.number)
 
-pub returns-in-Refused-take_number : goal.returns-in-Refused-take_number
-returns-in-Refused-take_number c =
-    stop_second _ _ c.take_number.ensures _ c.in-Number.is _ c.take_number-2.ensures _
-    c.in-Refused-take_number.is
+pub returns-in_err-low-clause-header : goal.returns-in_err-low-clause-header
+unfolding kind_number
+returns-in_err-low-clause-header c cells =
+    rw (passed_on c.from_residual-in_err-low.result _ c.from_residual-in_err-low.ensures.1)
+    (stop_second _ _ c.in_ok-high.ensures.number _ _ c.in_err-low.ensures.number)
 
-pub returns-in-Refused-take_number-2 : goal.returns-in-Refused-take_number-2
-returns-in-Refused-take_number-2 c =
-    stop_third _ _ c.take_number.ensures _ c.in-Number.is _ c.take_number-2.ensures _
-    c.in-Number-take_number.is _ c.take_number-3.ensures _ c.in-Refused-take_number-2.is
+pub returns-in_err-n-clause-header : goal.returns-in_err-n-clause-header
+unfolding kind_number
+returns-in_err-n-clause-header c cells =
+    rw (passed_on c.from_residual-in_err-n.result _ c.from_residual-in_err-n.ensures.1)
+    (stop_third _ _ c.in_ok-high.ensures.number _ c.in_ok-low.ensures.number _ _ c.in_err-n.ensures.number)
 
-pub overflow_mul-batch : goal.overflow_mul-batch
-overflow_mul-batch c = omega (arith, number_limit _ _ _ _ _ _ c.take_number.ensures c.in-Number.is)
-
-pub overflow_add-batch : goal.overflow_add-batch
-overflow_add-batch c =
-    omega (
-      arith,
-      number_limit _ _ _ _ _ _ c.take_number.ensures c.in-Number.is,
-      number_limit _ _ _ _ _ _ c.take_number-2.ensures c.in-Number-take_number.is,
-    )
-
-pub returns : goal.returns
-returns c =
-    header_read _ _ c.take_number.ensures _ c.in-Number.is _ c.take_number-2.ensures _
-    c.in-Number-take_number.is _ c.take_number-3.ensures _ c.in-Number-take_number-2.is
+pub returns-clause-header : goal.returns-clause-header
+unfolding kind_number held span
+returns-clause-header c cells =
+    header_read _ _ c.in_ok-high.ensures.number _ c.in_ok-low.ensures.number _ c.in_ok-n.ensures.number

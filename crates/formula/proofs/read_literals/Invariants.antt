@@ -1,6 +1,4 @@
--- `read_literals` is `take_literals`. The loop's invariant is that of LiteralsLaws.antt, with a law for each way out; the measure is
--- what c leaves.
-use Prim.Native.Nat.{◌-◌}
+-- `read_literals` is `take_literals`. The loop's invariant is that of LiteralsLaws.antt, with a law for each way out.
 use Rattle.words.specs.Machine.{bits_of}
 use Rattle.formula.specs.Sheet.{words}
 use Rattle.formula.proofs.LiteralsLaws.{LiteralsSofar}
@@ -8,6 +6,3 @@ use Rattle.formula.proofs.read_literals.Given as goal
 
 abbrev pub invariant-loop-j : goal.invariant-loop-j
 invariant-loop-j l = LiteralsSofar l.n l.c l.at l.from (words l.part) l.initial.cells l.cells (bits_of l.seen) l.j
-
-abbrev pub decreases-loop-j : goal.decreases-loop-j
-decreases-loop-j l = l.c - l.j

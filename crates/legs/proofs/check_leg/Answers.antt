@@ -1,57 +1,45 @@
 -- `check_leg` meets its contract, check by check.
-use mathlib.Core.Path.{◌≡◌, sym, ◌∙◌}
-use mathlib.Core.Bool.{true}
-use Prim.Native.Nat.{◌^◌, ◌<◌}
-use native.Mathlib.Omega.{arith}
-use Rattle.search.specs.Run.{plan}
-use Rattle.legs.specs.Legs.{of_plan, of_batch}
-use Rattle.legs.specs.Machine.{header_in}
-use Rattle.legs.proofs.MachineLaws.{check_count, check_plan, check_old, check_sheet, check_next, check_clauses}
+use mathlib.Core.Path.{◌∙◌}
+use Rattle.formula.proofs.ResultLaws.{passed_on}
+use Rattle.words.specs.Refusals.{number_of}
+use Rattle.formula.specs.Reading.{formula_of}
+use Rattle.legs.specs.Legs.{checks}
+use Rattle.legs.specs.Machine.{sheet_number}
+use Rattle.legs.proofs.MachineLaws.{stops, goes_on, same_header}
 use Rattle.legs.proofs.check_leg.Goals as goal
-use Rattle.legs.proofs.check_leg.Goals.{Else-not-of_batch}
 
-pub returns-then-centres-ge-CENTRES : goal.returns-then-centres-ge-CENTRES
-returns-then-centres-ge-CENTRES c = c.decline.ensures ∙ check_count _ _ _ _ _ _ _ c.if-centres-ge-CENTRES.true
+pub returns-in_err-decline_when : goal.returns-in_err-decline_when
+unfolding checks sheet_number number_of
+returns-in_err-decline_when c =
+    rw (passed_on c.from_residual.result _ c.from_residual.ensures.1)
+    (stops _ _ _ _ _ c.in_err-decline_when.ensures)
 
-pub returns-then-not-of_plan : goal.returns-then-not-of_plan
-returns-then-not-of_plan c =
-    let few : c.args.centres < 2 ^ 63 = omega (arith, c.if-centres-ge-CENTRES.false) in
-    c.decline-then-not-of_plan.ensures ∙ check_plan _ _ _ _ _ _ _ few (sym c.of_plan.ensures ∙ c.if-not-of_plan.true)
+pub returns-in_err-decline_when-2 : goal.returns-in_err-decline_when-2
+unfolding checks sheet_number number_of
+returns-in_err-decline_when-2 c =
+    rw (passed_on c.from_residual-in_err-decline_when-2.result _ c.from_residual-in_err-decline_when-2.ensures.1, ← c.of_plan.ensures)
+    (goes_on _ _ _ c.in_ok-decline_when.ensures (stops _ _ _ _ _ c.in_err-decline_when-2.ensures))
 
-pub returns-then-not-of_batch : goal.returns-then-not-of_batch
-returns-then-not-of_batch c =
-    let few : c.args.centres < 2 ^ 63 = omega (arith, c.if-centres-ge-CENTRES.false) in
-    let planned = sym c.of_plan.ensures ∙ c.if-not-of_plan.false in
-    c.decline-then-not-of_batch.ensures
-    ∙ check_old _ _ _ _ _ _ _ few planned (sym c.of_batch.ensures ∙ c.if-not-of_batch.true)
+pub returns-in_err-decline_when-3 : goal.returns-in_err-decline_when-3
+unfolding checks sheet_number number_of
+returns-in_err-decline_when-3 c =
+    rw (passed_on c.from_residual-in_err-decline_when-3.result _ c.from_residual-in_err-decline_when-3.ensures.1, ← c.of_plan.ensures, ← c.of_batch-old.ensures)
+    (goes_on _ _ _ c.in_ok-decline_when.ensures (goes_on _ _ _ c.in_ok-decline_when-2.ensures (stops _ _ _ _ _ c.in_err-decline_when-3.ensures)))
 
--- past the checks of the plan and of the old sheet
-module _ (c : Else-not-of_batch) where
-  few : c.args.centres < 2 ^ 63
-  few = omega (arith, c.if-centres-ge-CENTRES.false)
+pub returns-in_err-decline_when-4 : goal.returns-in_err-decline_when-4
+unfolding checks sheet_number number_of
+returns-in_err-decline_when-4 c =
+    rw (passed_on c.from_residual-in_err-decline_when-4.result _ c.from_residual-in_err-decline_when-4.ensures.1, ← c.of_plan.ensures, ← c.of_batch-old.ensures, ← (c.of_batch-own.ensures ∙ same_header (formula_of c.args.sheet.now) _))
+    (goes_on _ _ _ c.in_ok-decline_when.ensures (goes_on _ _ _ c.in_ok-decline_when-2.ensures (goes_on _ _ _ c.in_ok-decline_when-3.ensures (stops _ _ _ _ _ c.in_err-decline_when-4.ensures))))
 
-  planned : let a = c.args in of_plan (plan a.size a.radius) a.checkpoint ≡ true
-  planned = sym c.of_plan.ensures ∙ c.if-not-of_plan.false
-
-  old : let a = c.args in of_batch (header_in a.before.batch a.before.n) a.checkpoint ≡ true
-  old = sym c.of_batch.ensures ∙ c.if-not-of_batch.false
-
-pub returns-then-not-of_batch-2 : goal.returns-then-not-of_batch-2
-returns-then-not-of_batch-2 c =
-    let e = c.before.before.before in
-    c.decline-then-not-of_batch-2.ensures
-    ∙ check_sheet _ _ _ _ _ _ _ (few e) (planned e) (old e) (sym c.of_batch-2.ensures ∙ c.if-not-of_batch-2.true)
-
-pub returns-then-centres-checkpoint : goal.returns-then-centres-checkpoint
-returns-then-centres-checkpoint c =
-    let e = c.before.before.before.before.before in
-    let sheet = sym c.of_batch-2.ensures ∙ c.if-not-of_batch-2.false in
-    c.decline-then-centres-checkpoint.ensures
-    ∙ check_next _ _ _ _ _ _ _ (few e) (planned e) (old e) sheet c.if-centres-checkpoint.true
+pub returns-in_err-decline_when-5 : goal.returns-in_err-decline_when-5
+unfolding checks sheet_number number_of
+returns-in_err-decline_when-5 c =
+    rw (passed_on c.from_residual-in_err-decline_when-5.result _ c.from_residual-in_err-decline_when-5.ensures.1, ← c.of_plan.ensures, ← c.of_batch-old.ensures, ← (c.of_batch-own.ensures ∙ same_header (formula_of c.args.sheet.now) _))
+    (goes_on _ _ _ c.in_ok-decline_when.ensures (goes_on _ _ _ c.in_ok-decline_when-2.ensures (goes_on _ _ _ c.in_ok-decline_when-3.ensures (goes_on _ _ _ c.in_ok-decline_when-4.ensures (stops _ _ _ _ _ c.in_err-decline_when-5.ensures)))))
 
 pub returns : goal.returns
+unfolding checks sheet_number number_of
 returns c =
-    let e = c.before.before.before.before.before in
-    let sheet = sym c.of_batch-2.ensures ∙ c.if-not-of_batch-2.false in
-    c.all_kept.ensures
-    ∙ check_clauses _ _ _ _ _ _ _ (few e) (planned e) (old e) sheet (omega (arith, c.if-centres-checkpoint.false))
+    rw (← c.of_plan.ensures, ← c.of_batch-old.ensures, ← (c.of_batch-own.ensures ∙ same_header (formula_of c.args.sheet.now) _))
+    (goes_on _ _ _ c.in_ok-decline_when.ensures (goes_on _ _ _ c.in_ok-decline_when-2.ensures (goes_on _ _ _ c.in_ok-decline_when-3.ensures (goes_on _ _ _ c.in_ok-decline_when-4.ensures (goes_on _ _ _ c.in_ok-decline_when-5.ensures (c.all_kept.ensures))))))

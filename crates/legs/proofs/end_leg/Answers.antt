@@ -7,5 +7,5 @@ use Rattle.legs.proofs.end_leg.Goals as goal
 pub returns : goal.returns
 unfolding decided_leg
 returns c =
-    let reply = c.about.ensures ∙ ap (about 0) c.numbers.ensures in
+    let reply = c.about.ensures ∙ ap (about 0) c.from.ensures in
     ap (λ (x : LegReply). record { reply = x; checkpoint = c.args.checkpoint }) reply

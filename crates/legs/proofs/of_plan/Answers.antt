@@ -3,10 +3,10 @@ use Rattle.legs.specs.Legs.{of_plan}
 use Rattle.legs.proofs.MachineLaws.{both_same, one_differs}
 use Rattle.legs.proofs.of_plan.Goals as goal
 
-pub returns-then-checkpoint-size : goal.returns-then-checkpoint-size
+pub returns-then-checkpoint-plan : goal.returns-then-checkpoint-plan
 unfolding of_plan
-returns-then-checkpoint-size c = both_same _ _ _ c.if-checkpoint-size.true
+returns-then-checkpoint-plan c = both_same _ _ _ c.if-checkpoint-plan.true
 
-pub returns-else-checkpoint-size : goal.returns-else-checkpoint-size
+pub returns-else-checkpoint-plan : goal.returns-else-checkpoint-plan
 unfolding of_plan
-returns-else-checkpoint-size c = one_differs _ _ _ c.if-checkpoint-size.false
+returns-else-checkpoint-plan c = one_differs _ _ _ c.if-checkpoint-plan.false

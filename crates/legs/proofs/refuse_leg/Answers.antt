@@ -1,5 +1,5 @@
 -- `refuse_leg` meets its contract: the reply of the refusal, and the record that came.
-use mathlib.Core.Path.{ap, ◌∙◌}
+use mathlib.Core.Path.{ap, ap₂, ◌∙◌}
 use Rattle.legs.specs.declared.LegReply.{LegReply}
 use Rattle.legs.specs.Legs.{about, refused_leg}
 use Rattle.legs.proofs.refuse_leg.Goals as goal
@@ -7,5 +7,5 @@ use Rattle.legs.proofs.refuse_leg.Goals as goal
 pub returns : goal.returns
 unfolding refused_leg
 returns c =
-    let reply = c.about.ensures ∙ ap (about _) c.declined.ensures in
+    let reply = c.about.ensures ∙ ap₂ about c.number.ensures c.declined.ensures in
     ap (λ (x : LegReply). record { reply = x; checkpoint = c.args.checkpoint }) reply

@@ -3,7 +3,7 @@ use Rattle.std.proofs.Common.{length, ◌-◌, ◌≤◌, ◌≡◌}
 use Rattle.line.proofs.read_input.Given as goal
 
 abbrev pub invariant-loop-done : goal.invariant-loop-done
-invariant-loop-done g l = (l.done ≤ length l.input) × (length l.input ≡ length l.initial.input)
+invariant-loop-done g l = (l.done ≤ length l.room) × (length l.room ≡ length l.initial.room)
 
 abbrev pub decreases-loop-done : goal.decreases-loop-done
-decreases-loop-done g l = length l.initial.input - l.done
+decreases-loop-done g l = length l.initial.room - l.done

@@ -43,4 +43,4 @@ pub bounds-planes-slot-4 : goal.bounds-planes-slot-4
 bounds-planes-slot-4 c = omega arith
 
 pub returns : goal.returns
-returns c = stored_slot c.args.planes.now c.args.slot c.args.word c.requires.slot_lt_slots c.requires.planes_len
+returns c = stored_slot c.args.planes.now c.args.slot c.args.word c.requires (omega arith)

@@ -1,35 +1,28 @@
 -- `leg` meets its contract: tables and planes are made once, and then the balls are searched in order.
-use mathlib.Core.Path.{ap, ◌∙◌}
-use Prim.Native.Nat.{ℕ, ◌+◌, ◌*◌}
-use native.Mathlib.Omega.{arith}
+use Rattle.std.proofs.Common.{arith}
 use Rattle.formula.proofs.TableLaws.{table_wider}
-use Rattle.search.proofs.LayoutLaws.{reach_is}
 use Rattle.ball.specs.Machine.{Ready}
 use Rattle.search.proofs.leg.Goals as goal
 
-pub overflow_mul-radius : goal.overflow_mul-radius
-overflow_mul-radius c = omega (arith, c.requires.laying.0.reach)
-
-pub overflow_add-radius : goal.overflow_add-radius
-overflow_add-radius c = omega (arith, c.requires.laying.0.reach, c.least.ensures)
+pub invariant_of-ball : goal.invariant_of-ball
+invariant_of-ball c =
+    let s = c.args.sheet.now in
+    let size = c.of-occ.ensures.count in
+    record { ready = rw size (record { table = table_wider _ _ _ _ s.small s.holds; occurs = c.of-occ.ensures.occurs }); whole = size }
 
 pub balls-requires : goal.balls-requires
 balls-requires c =
+    let s = c.args.sheet.now in
     let begins = c.start-planes.ensures in
-    let occurs = c.occurrences-occ.ensures in
-    let l = c.args.layout in
-    let ready : Ready c.args.k c.args.cells.now _ =
-    record { table = table_wider _ _ _ _ c.requires.n_le_width.0 c.requires.n_le_width.1; occurs = occurs } in
-    let shown = begins.shows c.args.cells.now c.requires.n_le_width.1 occurs in
-    let summed = ap (λ (x : ℕ). l.whole * l.radius + x) c.least.ensures ∙ reach_is l _ _ in
+    let size = c.of-occ.ensures.count in
+    let occurs = c.of-occ.ensures.occurs in
+    let ready : Ready s.count s.cells _ = record { table = table_wider _ _ _ _ s.small s.holds; occurs = occurs } in
+    let shown = (rw size at begins.shows) s.cells s.holds occurs in
     record {
-      ready = ready;
       size = begins.size;
       shows = shown;
-      laying = c.requires.laying.0;
-      reach = rw summed at (c.flips-reach.ensures _ ready shown);
-      start = c.requires.laying.1;
+      same = c.requires.same_n;
+      reach = rw c.radius.ensures at ((rw size at c.flips-reach.ensures) _ ready shown);
+      start = omega (arith, c.requires.start);
+      limit = omega (arith, c.ranges.budget.fits);
     }
-
-pub returns : goal.returns
-returns c = c.balls.ensures

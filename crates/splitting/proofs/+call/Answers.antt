@@ -8,7 +8,6 @@ use Rattle.words.specs.Bits.{width}
 use Rattle.tree.specs.Machine.{answer_in}
 use Rattle.tree.proofs.BudgetLaws.{call_spent}
 use Rattle.splitting.specs.Machine.{node_in, some_closed, Standing}
-use Rattle.splitting.proofs.SetLaws.{sign_row}
 use Rattle.splitting.proofs.MachineLaws.{call_lost, call_sure, call_left, standing_zero, standing_one, splits_stops, splits_next}
 use Rattle.splitting.proofs.+call.Goals as goal
 use Rattle.splitting.proofs.+call.Goals.{After-any_closed-2, Else-not-any_closed}
@@ -37,16 +36,16 @@ module _ (t : ℕ) (c : Else-not-any_closed t) where
   abbrev At : List ℕ → Type 0
   At cells =
       let a = c.args in
-      Standing a.n a.k cells a.occ.now a.rows.now (node_in a.set a.at) a.unmet.now
+      Standing a.n a.occ.now.count cells a.occ.now.table a.rows.now (node_in a.set a.at) a.unmet.now
 
   counted : c.args.calls < c.args.budget
   counted = leb-false _ _ (sym c.exhausted.ensures ∙ c.if-exhausted.false)
 
-  open-here : (cells : List ℕ) → At cells → false ≡ some_closed c.args.k cells c.args.set (node_in c.args.set c.args.at)
+  open-here : (cells : List ℕ) → At cells → false ≡ some_closed c.args.occ.now.count cells c.args.set (node_in c.args.set c.args.at)
   open-here cells s =
       sym c.if-any_closed.false ∙ c.any_closed.ensures _ cells _ (omega (arith, s.within)) s.opens s.unmet
 
-  open-there : (cells : List ℕ) → At cells → true ≡ some_closed c.args.k cells c.args.n (node_in c.args.set c.args.at)
+  open-there : (cells : List ℕ) → At cells → true ≡ some_closed c.args.occ.now.count cells c.args.n (node_in c.args.set c.args.at)
   open-there cells s = sym c.if-not-any_closed.false ∙ c.any_closed-2.ensures _ cells _ (omega arith) s.opens s.unmet
 
   left : c.args.set < c.args.n
@@ -60,48 +59,40 @@ module _ (t : ℕ) (c : Else-not-any_closed t) where
 pub toggled-one-requires : goal.toggled-one-requires
 toggled-one-requires t c = inside t c
 
-pub literal_word-requires : goal.literal_word-requires
-literal_word-requires t c = inside t c.before
-
-pub without-requires-clause-k_le_lane_count : goal.without-requires-clause-k_le_lane_count
-without-requires-clause-k_le_lane_count t c =
-    (c.requires.by_index.1.table.room, rw c.literal_word.ensures (sign_row _ _ (inside t c.before.before.before)))
+pub of-requires : goal.of-requires
+of-requires t c = inside t c.before
 
 -- The first of two calls has the variable at 0,
 pub call-tried-requires : goal.call-tried-requires
 call-tried-requires t c =
     let e = c.before.before.before.before.before in
     let (cells, s) = c.requires.by_index in
-    let standing = standing_zero s _ (left t e) c.requires.n_le_width c.without.ensures.without c.literal_word.ensures in
+    let standing = standing_zero s _ (left t e) c.requires.n_le_width c.without.ensures c.of.ensures in
     (omega (arith, c.decreases, left t e), (c.requires.n_le_width, (cells, standing)))
 
 pub returns-in_default : goal.returns-in_default
 returns-in_default t c cells s =
     let e = c.before.before.before.before.before.before.before in
-    let standing = standing_zero s _ (left t e) c.requires.n_le_width c.without.ensures.without c.literal_word.ensures in
+    let standing = standing_zero s _ (left t e) c.requires.n_le_width c.without.ensures c.of.ensures in
     splits_stops s _ _ (counted t e) (open-here t e cells s) (open-there t e cells s) _ c.toggled-one.ensures _
     (c.call-tried.ensures cells standing) c.in_default.not-None
 
-pub literal_word-requires-2 : goal.literal_word-requires-2
-literal_word-requires-2 t c = inside t (c.before.before.before.before.before.before.before)
-
-pub without-requires-2-clause-k_le_lane_count : goal.without-requires-2-clause-k_le_lane_count
-without-requires-2-clause-k_le_lane_count t c =
-    (c.requires.by_index.1.table.room, rw c.literal_word-2.ensures (sign_row _ _ (inside t (c.before.before.before.before.before.before.before.before.before))))
+pub of-requires-2 : goal.of-requires-2
+of-requires-2 t c = inside t (c.before.before.before.before.before.before.before)
 
 -- and the second at 1.
 pub call-requires : goal.call-requires
 call-requires t c =
     let e = c.before.before.before.before.before.before.before.before.before.before.before in
     let (cells, s) = c.requires.by_index in
-    let standing = standing_one s _ (left t e) c.requires.n_le_width c.without-2.ensures.without _ c.toggled-one.ensures c.literal_word-2.ensures in
+    let standing = standing_one s _ (left t e) c.requires.n_le_width c.without-2.ensures _ c.toggled-one.ensures c.of-2.ensures in
     (omega (arith, c.decreases, left t e), (c.requires.n_le_width, (cells, standing)))
 
 pub returns : goal.returns
 returns t c cells s =
     let e = c.before.before.before.before.before.before.before.before.before.before.before.before in
-    let zero = standing_zero s _ (left t e) c.requires.n_le_width c.without.ensures.without c.literal_word.ensures in
-    let one = standing_one s _ (left t e) c.requires.n_le_width c.without-2.ensures.without _ c.toggled-one.ensures c.literal_word-2.ensures in
+    let zero = standing_zero s _ (left t e) c.requires.n_le_width c.without.ensures c.of.ensures in
+    let one = standing_one s _ (left t e) c.requires.n_le_width c.without-2.ensures _ c.toggled-one.ensures c.of-2.ensures in
     c.call.ensures cells one
     ∙ splits_next s _ _ (counted t e) (open-here t e cells s) (open-there t e cells s) _ c.toggled-one.ensures _
     (c.call-tried.ensures cells zero) _ c.in-None.is

@@ -1,4 +1,4 @@
-use mathlib.Core.Path.{◌≡◌, sym, ◌∙◌, subst}
+use mathlib.Core.Path.{◌≡◌, ◌∙◌, subst}
 use mathlib.Core.Bool.{false}
 use mathlib.Core.List.{List}
 use Prim.Native.Nat.{ℕ, ◌<◌}
@@ -7,10 +7,10 @@ use borrow.Author.Tests.{not-true}
 use Rattle.words.specs.Machine.{set_of, Meets}
 use Rattle.formula.specs.Machine.{clause_at}
 use Rattle.ball.specs.Ball.{State, is_true}
-use Rattle.ball.proofs.ChoiceLaws.{spared_meets, spared_none, unspared_next, zero_false}
+use Rattle.ball.proofs.ChoiceLaws.{spared_meets, spared_none, at_none, lone_next}
 use Rattle.ball.specs.Machine.{Ready, Standing, is_spared}
 use Rattle.ball.proofs.choice.first_lone.Goals as goal
-use Rattle.ball.proofs.choice.first_lone.Goals.{After-meets-in-loop-i, In-loop-i, Start}
+use Rattle.ball.proofs.choice.first_lone.Goals.{After-meets-in-Some}
 
 -- no variable is forced
 pub returns-then-not-meets : goal.returns-then-not-meets
@@ -18,72 +18,40 @@ returns-then-not-meets c cells ready shows stand first h =
     let none = subst (Meets _ _) c.if-not-meets.true c.meets.ensures in
     record {
       within = omega arith;
-      before = λ i l q. spared_none ready stand none i (omega (arith, q, c.requires.2));
+      before = λ i l q. spared_none ready stand none i (omega (arith, q, c.requires.1));
       here = λ q. absurd (omega arith);
     }
 
-pub loop-i-init : goal.loop-i-init
-loop-i-init c cells s ready shows stand first inside =
-    (omega arith, λ h. not-true _ (first.here h), λ j l h. absurd (omega arith))
+pub loop-next-init : goal.loop-next-init
+loop-next-init c cells s ready shows stand first inside = (inside, not-true _ (first.here inside), λ j l h. absurd (omega arith))
 
--- what it was given, in the loop
-abbrev entry : In-loop-i → Start
-entry c = c.before.before.before.before.before
+-- whether clause i meets L
+module _ (c : After-meets-in-Some) where
+  spared : (cells : List ℕ) (s : State) → Ready c.args.occ.now.count cells c.args.occ.now.table →
+      Standing c.args.occ.now.count cells s (set_of c.args.at.forced) → c.in-Some.i < c.args.occ.now.count →
+      is_true s (clause_at cells c.in-Some.i) ≡ false → is_spared c.args.occ.now.count cells s c.in-Some.i ≡ c.meets-in-Some.result
+  spared cells s ready stand inside failing =
+      spared_meets ready stand _ inside failing _ (rw c.set_at.ensures at c.meets-in-Some.ensures)
 
--- clause i stands before `end`
-inside : (c : In-loop-i) → c.loop-i.i < (entry c).args.k
-inside c = omega (arith, c.loop-i-test.true, (entry c).requires.2)
-
-pub set_at-requires : goal.set_at-requires
-set_at-requires c = omega (arith, inside c, (entry c).requires.0)
-
--- whether it meets L
-spared : (c : After-meets-in-loop-i) →
-    let d = c.before.before in
-    let a = (entry d).args in
-    (cells : List ℕ) (s : State) → Ready a.k cells a.occ.now → Standing a.k cells s (set_of a.at.forced) →
-    is_true s (clause_at cells d.loop-i.i) ≡ false → is_spared a.k cells s d.loop-i.i ≡ c.meets-in-loop-i.result
-spared c cells s ready stand failing =
-    let d = c.before.before in
-    spared_meets ready stand _ (inside d) failing _ (rw c.set_at.ensures at c.meets-in-loop-i.ensures)
+pub returns-then-end-i : goal.returns-then-end-i
+returns-then-end-i c cells ready shows stand first h =
+    let (inside, failing, before) = rw c.in-Some.is at (c.loop-next.invariant cells _ ready shows stand first h) in
+    record { within = omega arith; before = λ j l q. before j l (omega arith); here = λ q. absurd (omega arith) }
 
 pub returns-then-meets : goal.returns-then-meets
 returns-then-meets c cells ready shows stand first h =
-    let d = c.before.before.before in
-    let (within, failing, before) = d.loop-i.invariant cells _ ready shows stand first h in
-    record {
-      within = omega (arith, d.loop-i-test.true);
-      before = before;
-      here = λ l. spared c.before cells _ ready stand (failing (inside d)) ∙ c.if-meets.true;
-    }
-
-pub overflow_add-i : goal.overflow_add-i
-overflow_add-i c = let d = c.before.before.before in omega (arith, inside d, (entry d).requires.0)
-
-pub next-i-requires : goal.next-i-requires
-next-i-requires c =
-    let d = c.before.before.before in
-    ((entry d).requires.0, omega arith, omega (arith, inside d))
-
-pub loop-i-smaller : goal.loop-i-smaller
-loop-i-smaller c = omega (arith, inside c.before.before.before.before, c.next-i.ensures.lower_bound)
-
-pub loop-i-preserved : goal.loop-i-preserved
-loop-i-preserved c cells s ready shows stand first h =
-    let d = c.before.before.before.before in
-    let (within, failing, before) = d.loop-i.invariant cells s ready shows stand first h in
-    let f = c.next-i.ensures.by_index cells _ _ ready.occurs shows.met shows.«open» in
-    let unspared = spared c.before.before cells s ready stand (failing (inside d)) ∙ c.if-meets.false in (
-      f.within,
-      λ l. not-true _ (sym (zero_false (entry d).args.k cells s _) ∙ f.here l),
-      unspared_next _ cells s _ _ _ before unspared f,
+    let (inside, failing, before) = rw c.in-Some.is at (c.loop-next.invariant cells _ ready shows stand first h) in (
+      c.if-end-i.false,
+      record { within = omega arith; before = before; here = λ l. spared c.before cells _ ready stand inside failing ∙ c.if-meets.true },
     )
+
+pub loop-next-preserved : goal.loop-next-preserved
+loop-next-preserved c cells s ready shows stand first h =
+    let (inside, failing, before) = rw c.in-Some.is at (c.loop-next.invariant cells s ready shows stand first h) in
+    let unspared = spared c.before.before cells s ready stand inside failing ∙ c.if-meets.false in
+    lone_next _ cells s _ _ before unspared _ (c.next-next.ensures.by_index cells _ _ ready.occurs shows.met shows.«open»)
 
 pub returns : goal.returns
 returns c cells ready shows stand first h =
-    let (within, failing, before) = c.loop-i.invariant cells _ ready shows stand first h in
-    record {
-      within = omega arith;
-      before = λ j l q. before j l (omega (arith, c.loop-i-test.false));
-      here = λ q. absurd (omega arith);
-    }
+    let before = at_none _ _ _ c.in_default.not-Some (c.loop-next.invariant cells _ ready shows stand first h) in
+    record { within = omega arith; before = λ j l q. before j l (omega (arith, q, c.requires.1)); here = λ q. absurd (omega arith) }

@@ -1,43 +1,26 @@
-use mathlib.Core.Path.{◌≡◌, ◌∙◌, sym}
+use mathlib.Core.Path.{◌≡◌, refl, ◌∙◌, sym}
 use Prim.Native.Nat.{◌^◌}
 use native.Mathlib.Nat.{pos_of_ne-zero}
-use lib.Pow.{pow_pos}
 use lib.Seq.{length-take-le}
 use Rattle.code.specs.Code.{ball as ballOf, words_of}
 use Rattle.code.proofs.GrowLaws.{part_length, part_at, grow_start, grow_lt, grow_room, grow_fits, grow_next, grow_end}
 use native.Mathlib.Omega.{arith}
 use Rattle.code.proofs.greedy.fill.Goals as goal
 
-pub slice_bounds-ball-end : goal.slice_bounds-ball-end
-slice_bounds-ball-end c = sym (length-take-le _ _ c.list_ball-size.ensures.0)
-
-pub slice_bounds-gains-end : goal.slice_bounds-gains-end
-slice_bounds-gains-end c =
-    let size = c.power-n in
-    sym (part_length 4096 _ _ c.repeated-gain_cells.ensures.1 size.ensures.1)
-
-pub slice_bounds-left-end : goal.slice_bounds-left-end
-slice_bounds-left-end c =
-    let size = c.power-n in
-    sym (part_length 4096 _ _ c.raised-flag_cells.ensures size.ensures.1)
-
 pub loop-gains-init : goal.loop-gains-init
 unfolding ballOf words_of
 loop-gains-init c =
     let power = c.power-n in
-    let gains = c.repeated-gain_cells.ensures.1 in
-    let flags = c.raised-flag_cells.ensures in
-    let words : power.result ≡ 2 ^ c.args.t = power.ensures.0 in
+    let gains = refl in
+    let flags = refl in
+    let words : power.result ≡ 2 ^ c.args.plan.size = power.ensures.0 in
     let small = power.ensures.1 in
     let size = length-take-le _ _ c.list_ball-size.ensures.0 in
-    grow_start (rw (← words) small) c.requires.1 (rw words at c.list_ball-size.ensures.1)
+    grow_start (rw (← words) small) c.requires (rw words at c.list_ball-size.ensures.1)
     (part_length 4096 _ _ gains small ∙ words)
     (part_length 4096 _ _ flags small ∙ words)
     (λ w l. part_at 4096 _ _ gains small 0 w (rw words l) ∙ sym size)
     (λ x l. part_at 4096 _ _ flags small _ x (rw words l))
-
-pub best-w-requires : goal.best-w-requires
-best-w-requires c = let g = c.loop-gains.invariant in rw (g.counts.size, g.words) (pow_pos _)
 
 pub offset_bounds-gains-w : goal.offset_bounds-gains-w
 offset_bounds-gains-w c =
@@ -51,22 +34,9 @@ pub returns-then-gains-w-eq0 : goal.returns-then-gains-w-eq0
 returns-then-gains-w-eq0 c =
     grow_end c.loop-gains.invariant c.best-w.ensures c.if-gains-w-eq0.true
 
-pub overflow_cast-table : goal.overflow_cast-table
-overflow_cast-table c =
-    let g = c.loop-gains.invariant in
-    omega (arith, grow_lt g c.best-w.ensures, g.small, g.words)
-
 pub bounds-table-count : goal.bounds-table-count
 bounds-table-count c =
     grow_fits c.loop-gains.invariant c.best-w.ensures (pos_of_ne-zero c.if-gains-w-eq0.false)
-
-pub cover-requires : goal.cover-requires
-cover-requires c =
-    let g = c.loop-gains.invariant in
-    record {
-      counts_2 = g.counts;
-      w_in_bounds = grow_lt g c.best-w.ensures;
-    }
 
 pub loop-gains-smaller : goal.loop-gains-smaller
 loop-gains-smaller c =

@@ -1,7 +1,6 @@
-use mathlib.Core.Path.{◌≡◌, refl, ap, ◌∙◌}
+use mathlib.Core.Path.{◌≡◌, refl}
 use Prim.Native.Nat.{zero-le}
 use native.Mathlib.Omega.{arith}
-use lib.ListN.{length, length-set}
 use Rattle.words.specs.Lists.{keep, span}
 use Rattle.code.proofs.MachineLaws.{ball_skip, ball_next}
 use Rattle.code.proofs.greedy.list_ball.Goals as goal
@@ -9,7 +8,7 @@ use Rattle.code.proofs.greedy.list_ball.Goals.{then-x-s, else-x-s}
 
 pub loop-x-init : goal.loop-x-init
 unfolding keep span
-loop-x-init c = (zero-le, zero-le, refl, refl)
+loop-x-init c = (zero-le, refl)
 
 pub loop-x-preserved : goal.loop-x-preserved
 loop-x-preserved c =
@@ -17,19 +16,13 @@ loop-x-preserved c =
     elim c.if-x-s.branch [
       | then-x-s w ↦ (
         omega (arith, w.m-is),
-        omega (arith, w.m-is),
-        ap length w.ball-is ∙ simp length-set l.invariant.2,
-        rw (w.ball-is, w.m-is) (ball_next _ l.x l.ball l.m (omega arith) w.if-x-s.true l.invariant.3),
+        rw (w.ball-is, w.m-is) (ball_next _ l.x l.ball l.m (omega arith) w.if-x-s.true l.invariant.1),
       )
       | else-x-s w ↦ (
         omega (arith, w.m-is),
-        omega (arith, w.m-is),
-        ap length w.ball-is ∙ l.invariant.2,
-        rw (w.ball-is, w.m-is, ball_skip _ l.x w.if-x-s.false) l.invariant.3,
+        rw (w.ball-is, w.m-is, ball_skip _ l.x w.if-x-s.false) l.invariant.1,
       )
     ]
 
 pub returns : goal.returns
-returns c =
-    let e : c.loop-x.x ≡ c.args.n = omega arith in
-    (omega arith, rw (← e) c.loop-x.invariant.3)
+returns c = let e : c.loop-x.x ≡ c.args.n = omega arith in (omega arith, rw (← e) c.loop-x.invariant.1)

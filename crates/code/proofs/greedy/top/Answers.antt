@@ -1,26 +1,14 @@
-use mathlib.Core.Path.{◌≡◌, refl, ◌∙◌}
-use Prim.Native.Nat.{ℕ, zero-le}
-use lib.ListN.{length, get_or}
-use Rattle.code.specs.Machine.{peak}
-use Rattle.code.proofs.MachineLaws.{peak_more, peak_keep}
-use native.Mathlib.Omega.{arith}
+-- `code::top` finds the largest gain.
+use Rattle.std.proofs.Common.{ap, ◌∙◌}
+use Rattle.std.specs.Option.{unwrap_or}
+use Rattle.std.proofs.lemmas.Iterator.{YieldsList-from_slice}
+use Rattle.std.proofs.lemmas.Iterator.Consumers.{YieldsList-from_copied, max_from_yields_List}
+use Rattle.std.proofs.lemmas.Iterator.Adapters.{option_map_id}
+use Rattle.code.proofs.MachineLaws.{peak_reduce}
 use Rattle.code.proofs.greedy.top.Goals as goal
-use Rattle.code.proofs.greedy.top.Goals.{then-most-gain, else-most-gain}
-
-pub loop-v-init : goal.loop-v-init
-unfolding peak
-loop-v-init c = (zero-le, refl)
-
-pub loop-v-preserved : goal.loop-v-preserved
-loop-v-preserved c =
-    let l = c.loop-v in
-    let f : ℕ → ℕ = λ u. get_or c.args.gains.now u 0 in
-    elim c.if-most-gain.branch [
-      | then-most-gain w ↦ (omega arith, w.most-is ∙ peak_more f l.v (omega arith))
-      | else-most-gain w ↦ (omega arith, w.most-is ∙ l.invariant.1 ∙ peak_keep f l.v (omega arith))
-    ]
 
 pub returns : goal.returns
 returns c =
-    let e : c.loop-v.v ≡ length c.args.gains.now = omega arith in
-    rw e at c.loop-v.invariant.1
+    let gains = c.args.gains.now in
+    let most = max_from_yields_List _ _ c.max.ensures.ran (YieldsList-from_copied (YieldsList-from_slice gains cc)) in
+    c.unwrap_or.ensures ∙ ap (λ r. unwrap_or r 0) (rw option_map_id at most) ∙ peak_reduce gains

@@ -1,11 +1,7 @@
 -- `code::volume_at` meets its contract. The invariant: `binomial` is C(t, i), and `sum` is V(t, i).
 use mathlib.Core.Path.{◌≡◌}
-use Prim.Native.Nat.{◌-◌, ◌≤◌}
 use Rattle.code.specs.Volume.{choose, volume}
 use Rattle.code.proofs.volumes.volume_at.Given as goal
 
 abbrev pub invariant-loop-i : goal.invariant-loop-i
-invariant-loop-i l = (l.i ≤ l.last) × (l.binomial ≡ choose l.t l.i) × (l.sum ≡ volume l.t l.i)
-
-abbrev pub decreases-loop-i : goal.decreases-loop-i
-decreases-loop-i l = l.last - l.i
+invariant-loop-i l = (l.binomial ≡ choose l.t l.i) × (l.sum ≡ volume l.t l.i)

@@ -5,4 +5,4 @@ use Rattle.engine.proofs.exports.alike.Goals as goal
 
 pub returns : goal.returns
 unfolding alike_to
-returns c = c.compared.ensures ∙ ap comparison_of c.compare.ensures
+returns c = c.from.ensures ∙ ap comparison_of c.compare.ensures

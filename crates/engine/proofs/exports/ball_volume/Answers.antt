@@ -4,4 +4,4 @@ use Rattle.engine.specs.Replies.{result_of}
 use Rattle.engine.proofs.exports.ball_volume.Goals as goal
 
 pub returns : goal.returns
-returns c = c.in_numbers.ensures ∙ ap result_of c.volume.ensures
+returns c = c.from.ensures ∙ ap result_of c.volume.ensures

@@ -6,6 +6,6 @@ use Rattle.engine.proofs.exports.covering_code.Goals as goal
 pub returns : goal.returns
 returns c =
     record {
-      answer = c.in_numbers.ensures ∙ ap result_of c.code.ensures.answer;
+      answer = c.from.ensures ∙ ap result_of c.code.ensures.answer;
       cells = c.code.ensures.cells;
     }

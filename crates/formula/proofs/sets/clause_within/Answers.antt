@@ -1,26 +1,16 @@
-use mathlib.Core.Path.{refl, sym, ◌∙◌}
-use native.Mathlib.Omega.{arith}
-use Rattle.formula.specs.Sets.{within}
-use Rattle.words.proofs.ListLaws.{every_fails, every_next, every_holds}
-use Rattle.formula.proofs.TableLaws.{row_cons, row_end}
+-- All words of a clause stand in another just where the clause is within the other.
+use Rattle.std.proofs.Common.{rules, tests, map, ◌∙◌}
+use Rattle.std.proofs.lemmas.Iterator.{YieldsList-from_slice}
+use Rattle.std.proofs.lemmas.Iterator.Search.{all_from_yields_List}
+use Rattle.words.specs.Lists.{some}
+use Rattle.formula.specs.Formula.{literal_of}
+use Rattle.formula.specs.Sets.{same_literal}
+use Rattle.formula.proofs.SetLaws.{words_within}
 use Rattle.formula.proofs.sets.clause_within.Goals as goal
 
-pub loop-j-init : goal.loop-j-init
-loop-j-init c = refl
-
-pub returns-then-not-literal_stands : goal.returns-then-not-literal_stands
-unfolding within
-returns-then-not-literal_stands c =
-    every_fails _ _ c.loop-j.j c.loop-j.invariant (row_cons c.requires.0 c.loop-j.j (omega arith))
-    (sym (rw c.literal_at.ensures at c.literal_stands.ensures) ∙ c.if-not-literal_stands.true)
-
-pub loop-j-preserved : goal.loop-j-preserved
-unfolding within
-loop-j-preserved c =
-    every_next _ _ c.loop-j.j c.loop-j.invariant (row_cons c.requires.0 c.loop-j.j (omega arith))
-    (sym (rw c.literal_at.ensures at c.literal_stands.ensures) ∙ c.if-not-literal_stands.false)
-
 pub returns : goal.returns
-unfolding within
 returns c =
-    every_holds _ _ c.loop-j.j c.loop-j.invariant (row_end c.requires.0 c.loop-j.j (omega arith))
+    let ws = c.args.c.now in
+    let d = map literal_of c.args.d.now in
+    all_from_yields_List (λ w. some (same_literal (literal_of w)) d) _ _ _ c.all.ensures.ran (YieldsList-from_slice ws cc) (λ x b q k. search (rules, tests))
+    ∙ words_within ws d

@@ -1,16 +1,12 @@
-use native.Mathlib.Omega.{arith}
-use Rattle.formula.proofs.TableLaws.{row_cons, row_end}
-use Rattle.formula.proofs.MaskLaws.{marked_none, marked_next, marked_all, mark_of}
+-- The bits of all words are the clause's mask.
+use Rattle.std.proofs.Common.{rules, ◌≡◌, ◌∙◌, ◌*◌, ◌%◌, ◌^◌}
+use Rattle.std.specs.List.{fold}
+use Rattle.std.specs.Int.Bits.{bit_or}
+use Rattle.formula.specs.Machine.{mask_bits}
+use Rattle.formula.proofs.MaskLaws.{mask_words, shifted_words}
 use Rattle.formula.proofs.sets.mask.Goals as goal
-
-pub loop-j-init : goal.loop-j-init
-loop-j-init c = marked_none _
-
-pub loop-j-preserved : goal.loop-j-preserved
-loop-j-preserved c =
-    marked_next _ _ c.loop-j.j c.loop-j.invariant (row_cons c.requires c.loop-j.j (omega arith)) _
-    (mark_of _ _ c.literal_at.ensures)
 
 pub returns : goal.returns
 returns c =
-    marked_all _ _ c.loop-j.j c.loop-j.invariant (row_end c.requires c.loop-j.j (omega arith))
+    let mirrored : c.fold.result ≡ fold (λ b w. bit_or b (1 * 2 ^ (w % mask_bits) % 2 ^ mask_bits)) 0 c.args.clause.now = search rules in
+    mirrored ∙ shifted_words 0 c.args.clause.now ∙ mask_words c.args.clause.now

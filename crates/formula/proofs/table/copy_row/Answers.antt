@@ -1,28 +1,12 @@
-use native.Mathlib.Omega.{arith}
-use Rattle.formula.proofs.RowLaws.{copy_start, copy_next, copy_done}
+-- `table::copy_row` meets its contract: the row's cells take the place of the other's.
+use Rattle.std.proofs.Common.{◌≡◌, ℕ, ◌+◌, ◌-◌, ◌*◌, take, drop, ap, ◌∙◌, arith}
+use Rattle.formula.specs.Machine.{row_cells}
+use Rattle.formula.proofs.RowLaws.{row_copied}
 use Rattle.formula.proofs.table.copy_row.Goals as goal
-
-pub loop-x-init : goal.loop-x-init
-loop-x-init c = let h = c.requires in copy_start _ _ _ _ h.0 h.1 h.2
-
-pub overflow_mul-to : goal.overflow_mul-to
-overflow_mul-to c = omega (arith, c.requires.0.inside)
-
-pub overflow_add-to : goal.overflow_add-to
-overflow_add-to c = omega (arith, c.requires.0.inside)
-
-pub offset_bounds-from-i : goal.offset_bounds-from-i
-offset_bounds-from-i c = omega (arith, c.requires.0.inside)
-
-pub bounds-from-i : goal.bounds-from-i
-bounds-from-i c = omega (arith, c.requires.0.inside)
-
-pub loop-x-preserved : goal.loop-x-preserved
-loop-x-preserved c =
-    let h = c.requires in
-    copy_next _ _ _ _ h.0 h.1 h.2 c.loop-x.x _ c.loop-x.invariant (omega arith)
 
 pub returns : goal.returns
 returns c =
     let h = c.requires in
-    copy_done _ _ _ _ h.0 h.1 h.2 c.loop-x.x _ c.loop-x.invariant (omega arith)
+    let nine : row_cells * c.args.i + row_cells - row_cells * c.args.i ≡ row_cells = omega arith in
+    row_copied _ _ _ _ h.0 h.1 h.2 _ _ (omega arith)
+    (c.copy_from_slice.ensures.after ∙ ap (λ (n : ℕ). take n (drop (row_cells * c.args.i) c.args.from.now)) nine)

@@ -8,7 +8,7 @@ use Rattle.search.proofs.balls.recentre.Given as goal
 
 abbrev pub invariant-loop-v : goal.invariant-loop-v
 invariant-loop-v l =
-    Moves l.k l.occ (bits_of l.initial.at) l.initial.planes (bits_of l.at) l.planes × (bits_of l.at < 2 ^ l.n) × FirstDifference width (bits_of l.at) (bits_of l.to) l.v
+    Moves l.occ.count l.occ.table (bits_of l.initial.at) l.initial.planes (bits_of l.at) l.planes × (bits_of l.at < 2 ^ l.n) × FirstDifference width (bits_of l.at) (bits_of l.to) l.v
 
 abbrev pub decreases-loop-v : goal.decreases-loop-v
 decreases-loop-v l = l.n - l.v

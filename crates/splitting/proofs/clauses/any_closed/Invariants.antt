@@ -1,7 +1,7 @@
 -- `any_closed` meets its contract: the words before w have no such clause.
 use mathlib.Core.List.{List}
-use Prim.Native.Nat.{ℕ, ◌-◌, ◌*◌, ◌≤◌}
-use Rattle.planes.specs.Machine.{lanes, words_of, First}
+use Prim.Native.Nat.{ℕ, ◌*◌, ◌≤◌}
+use Rattle.planes.specs.Machine.{lanes, First}
 use Rattle.splitting.specs.Splitting.{Node}
 use Rattle.splitting.specs.Machine.{Unmet, Opens}
 use Rattle.splitting.proofs.SetLaws.{closed_at}
@@ -9,8 +9,5 @@ use Rattle.splitting.proofs.clauses.any_closed.Given as goal
 
 abbrev pub invariant-loop-w : goal.invariant-loop-w
 invariant-loop-w l =
-    (l.w ≤ words_of l.k) × ((n : ℕ) (cells : List ℕ) (x : Node) → l.j ≤ n → Opens n l.k cells l.rows → Unmet l.k cells x l.set →
-    (r : ℕ) → First (lanes * l.w) l.k (closed_at cells l.j x) r → First 0 l.k (closed_at cells l.j x) r)
-
-abbrev pub decreases-loop-w : goal.decreases-loop-w
-decreases-loop-w l = l.words - l.w
+    ((n : ℕ) (cells : List ℕ) (x : Node) → l.j ≤ n → Opens n l.occ.count cells l.rows → Unmet l.occ.count cells x l.set →
+    (r : ℕ) → First (lanes * l.w) l.occ.count (closed_at cells l.j x) r → First 0 l.occ.count (closed_at cells l.j x) r)

@@ -7,22 +7,16 @@ use Rattle.splitting.proofs.SetLaws.{opens_start, opens_step}
 use Rattle.splitting.proofs.clauses.open_rows.Goals as goal
 
 pub loop-at-init : goal.loop-at-init
-loop-at-init c = (omega arith, refl, λ k cells table o. opens_start open_cells table)
-
-pub loop-at-smaller : goal.loop-at-smaller
-loop-at-smaller c = omega arith
+loop-at-init c = (refl, λ k cells table o. opens_start open_cells table)
 
 pub loop-at-preserved : goal.loop-at-preserved
 loop-at-preserved c =
     let turn = c.loop-at in
     let less : turn.at - 1 + 1 ≡ turn.at = omega arith in (
-      omega arith,
-      simp length-set turn.invariant.1,
+      simp length-set turn.invariant.0,
       λ k cells table o.
-          opens_step turn.rows (turn.at - 1) table o (omega arith) (omega arith) c.requires (rw less (turn.invariant.2 k cells table o)),
+          opens_step turn.rows (turn.at - 1) table o (omega arith) (omega arith) c.requires (rw less (turn.invariant.1 k cells table o)),
     )
 
 pub returns : goal.returns
-returns c k cells table o =
-    let loop = c.loop-at in
-    record { each = λ j i l h. loop.invariant.2 k cells table o j i l h (omega arith) }
+returns c k cells table o = record { each = λ j i l h. c.loop-at.invariant.1 k cells table o j i l h (omega arith) }

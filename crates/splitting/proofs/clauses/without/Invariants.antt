@@ -2,10 +2,10 @@
 use mathlib.Core.Path.{◌≡◌}
 use mathlib.Core.Bool.{not, ◌&&◌}
 use mathlib.Core.List.{List}
-use Prim.Native.Nat.{ℕ, ◌+◌, ◌-◌, ◌*◌, ◌≤◌, ◌<◌}
+use Prim.Native.Nat.{ℕ, ◌+◌, ◌*◌, ◌<◌}
 use lib.ListN.{length, get_or}
 use Rattle.words.specs.Bits.{bit}
-use Rattle.planes.specs.Machine.{lanes, row_words, words_of}
+use Rattle.planes.specs.Machine.{lanes, row_words}
 use Rattle.splitting.proofs.clauses.without.Given as goal
 
 -- word w of the set
@@ -14,7 +14,4 @@ Word occ literal from w y =
     (j : ℕ) → j < lanes → bit y j ≡ (bit (get_or from w 0) j && not (bit (get_or occ (literal * row_words + w) 0) j))
 
 abbrev pub invariant-loop-w : goal.invariant-loop-w
-invariant-loop-w l = (l.w ≤ words_of l.k) × (length l.to ≡ row_words) × ((v : ℕ) → v < l.w → Word l.occ l.literal l.from v (get_or l.to v 0))
-
-abbrev pub decreases-loop-w : goal.decreases-loop-w
-decreases-loop-w l = l.words - l.w
+invariant-loop-w l = (length l.to ≡ row_words) × ((v : ℕ) → v < l.w → Word l.occ.table l.fn.literal.word l.from v (get_or l.to v 0))

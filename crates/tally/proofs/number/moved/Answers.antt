@@ -1,60 +1,26 @@
-use mathlib.Core.Path.{refl, sym, ◌∙◌}
-use Prim.Native.Nat.{◌/◌, ◌<◌}
-use native.Mathlib.Omega.{arith}
-use borrow.Author.Tests.{eq-eqb, ne_eqb}
-use Rattle.words.proofs.ListLaws.{some_next, some_none}
-use Rattle.formula.specs.Formula.{names, literal_of}
-use Rattle.formula.specs.Machine.{length_at, literal_at}
-use Rattle.formula.proofs.TableLaws.{row_length, row_cons, row_end, row_in}
+-- `number::moved` meets its contract: the first word that names the variable is the literal that does.
+use Rattle.std.proofs.Common.{rules, tests, ◌/◌, ◌∙◌}
+use Rattle.std.specs.Prelude.{eqb}
+use Rattle.std.proofs.lemmas.Iterator.{YieldsList-from_slice}
+use Rattle.std.proofs.lemmas.Iterator.Search.{find_from_yields_List}
+use Rattle.std.proofs.lemmas.List.{length-map}
+use Rattle.formula.specs.Formula.{literal_of}
 use Rattle.tally.proofs.NumberLaws.{moved_by, moved_not}
-use Rattle.tally.proofs.MachineLaws.{literal_inside, literal_known}
+use Rattle.tally.proofs.MachineLaws.{word_known, word_found, word_lacking}
 use Rattle.tally.proofs.number.moved.Goals as goal
 
-pub length_at-length-requires : goal.length_at-length-requires
-length_at-length-requires c = c.requires.row.inside
+pub returns-in_default : goal.returns-in_default
+returns-in_default c =
+    let found = find_from_yields_List (λ w. eqb (w / 2) c.args.variable) _ _ _ c.find.ensures.ran (YieldsList-from_slice c.args.clause.now cc) (λ x b q k. search (rules, tests)) in
+    moved_not _ _ _ _ (word_lacking _ _ (rw c.in_default.is at found))
 
-pub loop-j-init : goal.loop-j-init
-loop-j-init c = (omega arith, refl)
-
-pub literal_at-literal-requires : goal.literal_at-literal-requires
-literal_at-literal-requires c = literal_inside c.requires c.loop-j.j (omega (arith, c.length_at-length.ensures))
-
-pub meets-requires : goal.meets-requires
-meets-requires c =
-    rw c.literal_at-literal.ensures (literal_known c.requires _ (omega (arith, c.length_at-length.ensures)))
-
-pub stepped-requires : goal.stepped-requires
-stepped-requires c =
-    omega (arith, c.length_at-length.ensures, c.requires.row.short)
-
-pub returns-then-literal-variable : goal.returns-then-literal-variable
-unfolding literal_of
-returns-then-literal-variable c =
-    let row = c.requires.row in
-    let more : c.loop-j.j < length_at c.args.cells.now c.args.i = omega (arith, c.length_at-length.ensures) in
-    let named = eq-eqb (literal_at c.args.cells.now c.args.i c.loop-j.j / 2) c.args.variable
-    (rw c.literal_at-literal.ensures at c.if-literal-variable.true) in
-    c.stepped.ensures
-    ∙ rw (c.meets.ensures, c.literal_at-literal.ensures, c.length_at-length.ensures, ← row_length row)
-    (moved_by _ _ _ _ c.requires.clause.once _ (row_in row _ more) named)
-
-pub overflow_add-j : goal.overflow_add-j
-overflow_add-j c = omega (arith, literal_inside c.requires c.loop-j.j (omega (arith, c.length_at-length.ensures)))
-
-pub loop-j-smaller : goal.loop-j-smaller
-loop-j-smaller c = omega arith
-
-pub loop-j-preserved : goal.loop-j-preserved
-unfolding literal_of
-loop-j-preserved c =
-    let more : c.loop-j.j < length_at c.args.cells.now c.args.i = omega (arith, c.length_at-length.ensures) in
-    let other = ne_eqb (literal_at c.args.cells.now c.args.i c.loop-j.j / 2) c.args.variable
-    (rw c.literal_at-literal.ensures at c.if-literal-variable.false) in
-    let here = row_cons c.requires.row _ more in
-    (omega arith, some_next _ _ c.loop-j.j c.loop-j.invariant.1 here other)
+pub invariant_of-literal : goal.invariant_of-literal
+invariant_of-literal c =
+    let found = find_from_yields_List (λ w. eqb (w / 2) c.args.variable) _ _ _ c.find.ensures.ran (YieldsList-from_slice c.args.clause.now cc) (λ x b q k. search (rules, tests)) in
+    record { known = word_known _ c.requires _ (word_found _ _ _ (rw c.in-Some.is at found)).0 }
 
 pub returns : goal.returns
-unfolding names
 returns c =
-    let end = row_end c.requires.row c.loop-j.j (omega (arith, c.length_at-length.ensures)) in
-    moved_not _ _ _ _ (sym (some_none _ _ c.loop-j.j c.loop-j.invariant.1 end))
+    let found = find_from_yields_List (λ w. eqb (w / 2) c.args.variable) _ _ _ c.find.ensures.ran (YieldsList-from_slice c.args.clause.now cc) (λ x b q k. search (rules, tests)) in
+    let (stands, named) = word_found _ _ _ (rw c.in-Some.is at found) in
+    c.stepped.ensures ∙ rw (c.is_met.ensures, ← length-map c.args.clause.now literal_of) (moved_by _ _ _ _ c.requires.once _ stands named)

@@ -1,10 +1,13 @@
--- `Assignment::from_words` meets its contract: the words are those that were lent.
-use mathlib.Core.Path.{sym, ap}
-use Rattle.words.specs.Bits.{from_words}
-use Rattle.words.specs.Machine.{words_in, bits_of}
-use Rattle.words.proofs.WordLaws.{words_listed}
+-- `Assignment::from_words` meets its contract: each word is joined below those above it.
+use Rattle.std.specs.Prelude.{◌≡◌, ℕ, ◌*◌, ◌%◌, ◌^◌, fold, reverse}
+use Rattle.std.proofs.Common.{◌∙◌, arith, rules}
+use Rattle.std.specs.Int.Bits.{bit_or}
+use Rattle.words.specs.Bits.{width}
+use Rattle.words.proofs.WordLaws.{words_folded}
 use Rattle.words.proofs.Assignment.from_words.Goals as goal
 
 pub returns : goal.returns
-unfolding bits_of words_in
-returns c = sym (ap from_words (words_listed _ c.requires))
+returns c =
+    let ws = c.args.words.now in
+    let folded : c.fold.result ≡ fold (λ (m w : ℕ). bit_or (m * 2 ^ 32 % 2 ^ width) w) 0 (reverse ws) = search rules in
+    folded ∙ words_folded ws c.requires (λ i. omega (arith, c.type_inv.words i))

@@ -1,16 +1,20 @@
--- `Assignment::test` meets its contract: the bit stands in one of the words, and a shift is a quotient.
-use mathlib.Core.Path.{sym}
-use native.Mathlib.Omega.{arith}
+-- `Assignment::test` meets its contract: the bit stands in one of the two halves, and a shift is a quotient.
+use Rattle.std.specs.Prelude.{ℕ, ◌%◌, ◌^◌}
+use Rattle.std.proofs.Common.{ap, ◌∙◌, arith, mod-eq_of_lt}
 use Rattle.words.specs.Bits.{bit}
-use Rattle.words.specs.Machine.{words_in, bits_of}
-use Rattle.words.proofs.WordLaws.{words_small, from_words_bit}
+use Rattle.words.proofs.SetLaws.{Fits, fits_width, low_has, high_has}
 use Rattle.words.proofs.Assignment.test.Goals as goal
-
-pub word-requires : goal.word-requires
-word-requires c = omega arith
+use Rattle.words.proofs.Assignment.test.Goals.{then-v-lt-HALF, else-v-lt-HALF}
 
 pub returns : goal.returns
-unfolding bit bits_of
+unfolding bit
 returns c =
     let a = c.args in
-    rw c.word.ensures (sym (from_words_bit (words_in a.self) (words_small a.self (omega arith)) a.v))
+    let fits : Fits a.self = fits_width a.self (omega arith) in
+    let place : ℕ = a.v % 64 in
+    let at = λ (x : ℕ). bit (x % 2 ^ 64) place in
+    elim c.if-v-lt-HALF.branch [
+      | then-v-lt-HALF w ↦ ap at w.above-is ∙ low_has a.self fits a.v w.if-v-lt-HALF.true
+      | else-v-lt-HALF w ↦
+          ap at w.above-is ∙ ap (λ (x : ℕ). bit x place) (mod-eq_of_lt fits.1) ∙ high_has a.self fits a.v w.if-v-lt-HALF.false c.requires
+    ]

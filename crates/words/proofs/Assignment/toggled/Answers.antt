@@ -1,23 +1,26 @@
--- `Assignment::toggled` meets its contract: the bit stands in one of the words, and 1 shifted by less than 32 loses no bit.
-use mathlib.Core.Path.{ap, ap₂, ◌∙◌}
-use Prim.Native.Nat.{ℕ, ◌/◌, ◌%◌}
-use native.Mathlib.Omega.{arith}
-use lib.Bits.{bit_xor}
-use lib.ListN.{set}
-use Rattle.words.specs.Bits.{toggle, from_words}
+-- `Assignment::toggled` meets its contract: in either half the change is the power of two of its bit.
+use Rattle.std.specs.Prelude.{◌≡◌, ℕ, ◌+◌, ◌*◌, ◌%◌, ◌^◌}
+use Rattle.std.proofs.Common.{sym, ap, ◌∙◌, arith, mod-eq_of_lt}
+use Rattle.std.proofs.Math.Pow.{pow-add, pow-lt}
+use Rattle.std.specs.Int.Bits.{bit_xor}
+use Rattle.words.specs.Bits.{toggle, width}
 use Rattle.words.proofs.BitLaws.{one_shl}
-use Rattle.words.specs.Machine.{words_in, bits_of}
-use Rattle.words.proofs.WordLaws.{words_count, words_small, from_words_toggle}
 use Rattle.words.proofs.Assignment.toggled.Goals as goal
-
-pub word-requires : goal.word-requires
-word-requires c = omega arith
+use Rattle.words.proofs.Assignment.toggled.Goals.{then-v-lt-HALF, else-v-lt-HALF}
 
 pub returns : goal.returns
-unfolding toggle bits_of
+unfolding toggle
 returns c =
-    let a = c.args in
-    let ws = words_in a.self in
-    ap from_words c.with_word.ensures
-    ∙ ap (λ (x : ℕ). from_words (set ws (a.v / 32) x)) (ap₂ bit_xor c.word.ensures (one_shl 32 (a.v % 32) (omega arith)))
-    ∙ from_words_toggle ws (words_small a.self (omega arith)) a.v (omega (arith, words_count a.self))
+    let v = c.args.v in
+    let own : c.from-own.result ≡ 2 ^ (v % 64) = c.from-own.ensures ∙ one_shl 64 (v % 64) (omega arith) in
+    let change : c.if-v-lt-HALF.change ≡ 2 ^ v =
+    elim c.if-v-lt-HALF.branch [
+      | then-v-lt-HALF w ↦
+          let at : v % 64 ≡ v = omega arith in
+          w.change-is ∙ own ∙ ap (λ (x : ℕ). 2 ^ x) at
+      | else-v-lt-HALF w ↦
+          let at : v % 64 + 64 ≡ v = omega arith in
+          let whole : 2 ^ (v % 64) * 2 ^ 64 ≡ 2 ^ v = sym (pow-add 2 (v % 64) 64) ∙ ap (λ (x : ℕ). 2 ^ x) at in
+          w.change-is ∙ ap (λ (x : ℕ). x * 2 ^ 64 % 2 ^ width) own ∙ ap (λ (x : ℕ). x % 2 ^ width) whole ∙ mod-eq_of_lt (pow-lt c.requires)
+    ] in
+    ap (bit_xor c.args.self.bits) change

@@ -1,7 +1,6 @@
 -- `Path::is_free` meets its contract: the literal's bit is in neither set.
 use mathlib.Core.Path.{◌≡◌, refl, ap, ◌∙◌}
 use mathlib.Core.Bool.{Bool, true, false, not, ◌&&◌, ◌||◌}
-use native.Mathlib.Omega.{arith}
 use Rattle.words.specs.Bits.{bit}
 use Rattle.words.specs.Machine.{set_of}
 use Rattle.formula.specs.Formula.{bit_of, literal_of}
@@ -16,9 +15,10 @@ neither false true = refl
 neither false false = refl
 
 pub returns : goal.returns
-unfolding is_flipped state_in bit_of literal_of
+unfolding is_flipped state_in
 returns c =
     let a = c.args in
-    let l = literal_of a.literal in
-    ap not (c.has.ensures ∙ c.united-barred.ensures _ (omega arith))
+    let l = literal_of a.literal.word in
+    let free = rw c.bit.ensures.0 at (c.test.ensures ∙ c.united-barred.ensures _ c.bit.ensures.1) in
+    ap not free
     ∙ neither (is_flipped (state_in a.self) l) (bit (set_of a.self.forced) (bit_of l))

@@ -1,0 +1,32 @@
+-- `leg_alone` meets its contract: the plan's refusal first, then the sheet's, and otherwise the leg on what was read.
+use mathlib.Core.Path.{refl, ◌∙◌}
+use Rattle.formula.specs.Reading.{formula_of}
+use Rattle.formula.proofs.ResultLaws.{passed_on}
+use Rattle.search.specs.Run.{plan}
+use Rattle.legs.specs.Legs.{alone}
+use Rattle.legs.specs.Machine.{sheet_number}
+use Rattle.legs.proofs.MachineLaws.{leg_bad, old_declined, leg_taken, nothing_lacks}
+use Rattle.legs.proofs.leg_alone.Goals as goal
+
+pub returns-in_err-plan : goal.returns-in_err-plan
+unfolding sheet_number
+returns-in_err-plan c =
+    let (same, number, place, bad) = c.in_err-plan.ensures in
+    rw (passed_on c.from_residual.result _ c.from_residual.ensures.1, same, number, place) (leg_bad _ _ bad)
+
+pub returns-in_err-read : goal.returns-in_err-read
+unfolding sheet_number
+returns-in_err-read c =
+    let r = c.from_residual-in_err-read in
+    let (same, declined) = c.in_err-read.ensures in
+    rw (passed_on r.result _ r.ensures.1, same) (old_declined _ _ c.in_ok-plan.ensures.2 _ _ declined)
+
+pub returns : goal.returns
+unfolding sheet_number
+returns c =
+    let a = c.args in
+    let (size, radius, good) = c.in_ok-plan.ensures in
+    let f = formula_of c.read.new.sheet in
+    c.leg_sheet.ensures
+    ∙ leg_taken (alone (plan a.size a.radius) a.budget a.bytes.now) a.checkpoint good f c.in_ok-read.ensures f c.in_ok-read.ensures _ refl _
+    (nothing_lacks f) _ size _ radius

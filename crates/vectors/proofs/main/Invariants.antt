@@ -1,5 +1,0 @@
--- `main` ends: fewer sheets are left at each turn.
-use Rattle.vectors.proofs.main.Given as goal
-
-abbrev pub decreases-loop-left : goal.decreases-loop-left
-decreases-loop-left l = l.left
