@@ -49,7 +49,7 @@ pub struct Declined {
 fn alike(f: &Sheet, g: &Sheet) -> bool
     ensures { result ≡ alike (formula_of f.now) (formula_of g.now) }
 {
-    f.n == g.n && formula::same_clauses(f, g)
+    f.n == g.n && formula::same_clauses(f.clauses(), g.clauses())
 }
 
 // Whether any two lists of bytes are alike sheets: the first sheet is read, then the second.

@@ -5,7 +5,7 @@ ghost use Rattle.ball.specs.Machine.{Ready};
 use crate::path::Path;
 use crate::{choice, counts};
 use formula::{Literal, Sheet};
-use planes::{Kind, Occurrences, PLANES};
+use planes::{Kind, Occurrences, PLANES, TableRow};
 use tree::Found;
 
 // What all calls share: the sheet, where its literals occur, and how many calls may be made.
@@ -38,7 +38,7 @@ impl Ball<'_> {
         if tree::exhausted(calls, self.budget) {
             return Found::Spent(self.budget);
         }
-        let Some(first) = self.occ.next(None, Kind::Zero, planes, 0) else {
+        let Some(first) = self.occ.next(TableRow::NONE, Kind::Zero, planes, 0) else {
             let model = at.assignment;
             return Found::Clear(model, calls + 1);
         };
@@ -97,7 +97,8 @@ impl Ball<'_> {
             (call_from self.now.occ.now.count self.now.sheet.now.cells (left - 1) (flip (state_in at) (literal_of literal.word))) }
     {
         counts::flip(self.occ, literal, planes, next);
-        let after = choice::force(self.occ, Some(literal.opposite()), next, at.flip(literal));
+        let opposite = literal.opposite();
+        let after = choice::force(self.occ, TableRow::of(opposite), next, at.flip(literal));
         self.call(next, after, left - 1, calls)
     }
 

@@ -5,7 +5,7 @@ ghost use Rattle.words.specs.Bits.{width};
 ghost use Rattle.ball.specs.Machine.{Begins, Flips, Toggles, Settles};
 
 use formula::Literal;
-use planes::{Occurrences, PLANES, Rows};
+use planes::{Occurrences, PLANES, Rows, TableRow};
 
 // The planes of the assignment 0, over n variables.
 pub fn start(occ: &Occurrences, n: u32) -> [u64; PLANES]
@@ -20,11 +20,12 @@ pub fn start(occ: &Occurrences, n: u32) -> [u64; PLANES]
 pub fn flip(occ: &Occurrences, literal: Literal, from: &[u64; PLANES], to: &mut [u64; PLANES])
     ensures { Flips occ.now.count literal.word occ.now.table from.now to.new }
 {
+    let met = Rows::of(literal);
     let open = Rows {
-        up: None,
-        down: Some(literal),
+        up: TableRow::NONE,
+        down: TableRow::of(literal),
     };
-    occ.shift(Rows::of(literal), open, from, to);
+    occ.shift(met, open, from, to);
 }
 
 // The planes of a centre after the toggle of a literal that is not met: nothing is flipped, and
@@ -32,11 +33,12 @@ pub fn flip(occ: &Occurrences, literal: Literal, from: &[u64; PLANES], to: &mut 
 pub fn toggle(occ: &Occurrences, literal: Literal, from: &[u64; PLANES], to: &mut [u64; PLANES])
     ensures { Toggles occ.now.count literal.word occ.now.table from.now to.new }
 {
+    let met = Rows::of(literal);
     let open = Rows {
-        up: Some(literal.opposite()),
-        down: Some(literal),
+        up: TableRow::of(literal.opposite()),
+        down: TableRow::of(literal),
     };
-    occ.shift(Rows::of(literal), open, from, to);
+    occ.shift(met, open, from, to);
 }
 
 // Whether all clauses are true after `flip`.

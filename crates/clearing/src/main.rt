@@ -16,7 +16,7 @@ fn answer(input: &[u8]) -> Reply
     ensures { result ≡ program_reply input.now }
 {
     let Some(asked) = Request::read(input) else {
-        return decision::declined(Reason::BadPlan.at(0));
+        return decision::declined(Reason::BadPlan.number(), 0);
     };
     engine::run(asked.size, asked.radius, asked.budget, asked.sheet)
 }

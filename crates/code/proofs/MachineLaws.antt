@@ -9,8 +9,7 @@ use Rattle.std.proofs.Math.Numerals.{add-one}
 use Rattle.std.proofs.Math.Decide.{ℕ_discrete, dec_le}
 use borrow.Author.Tests.{le-leb, lt-leb, eq-eqb, ne_eqb}
 use Rattle.std.proofs.Math.Arith.{bin_ind}
-use Rattle.std.specs.List.{fold, reduce}
-use Rattle.std.specs.Option.{unwrap_or}
+use Rattle.std.specs.List.{fold}
 use Rattle.std.specs.Int.Bits.{bit_xor, differ, xor_step, xor_zero_l}
 use Rattle.std.proofs.lemmas.Nat.{xor_shr, xor_mod, xor_comm}
 use Rattle.std.specs.Int.Count.{ones}
@@ -51,10 +50,8 @@ unfolding peak
 peak_fold a [] = omega arith
 peak_fold a (x ∷ xs) = rw (peak_fold (max a x) xs, peak_first (λ v. get_or (x ∷ xs) v 0) (length xs)) (omega arith)
 
-pub peak_reduce : (xs : List ℕ) → unwrap_or (reduce max xs) 0 ≡ peak (λ v. get_or xs v 0) (length xs)
-unfolding peak
-peak_reduce [] = refl
-peak_reduce (x ∷ xs) = peak_fold x xs ∙ sym (peak_first (λ v. get_or (x ∷ xs) v 0) (length xs))
+pub peak_all : (xs : List ℕ) → fold max 0 xs ≡ peak (λ v. get_or xs v 0) (length xs)
+peak_all xs = peak_fold 0 xs ∙ omega arith
 
 -- two first places of a value are one
 pub first_same : (f : ℕ → ℕ) (m a b : ℕ) → f a ≡ m → ((v : ℕ) → v < a → f v ≡ m → ⊥) →

@@ -31,11 +31,12 @@ fn list_ball(ball: &mut [u16], n: usize, s: u32) -> usize
     m
 }
 
-// The largest gain.
+// The largest gain. From 0 on, and not from the first gain as `max` goes: so the machine takes them
+// all several at a time, from where the array begins.
 fn top(gains: &[u16]) -> u16
     ensures { result ≡ peak (λ v. get_or gains.now v 0) (length gains.now) }
 {
-    gains.iter().copied().max().unwrap_or(0)
+    gains.iter().fold(0, |most, gain| most.max(*gain))
 }
 
 // The first word whose gain is `most`.

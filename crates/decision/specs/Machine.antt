@@ -5,6 +5,9 @@ use Rattle.words.specs.Refusals.{number_of}
 use Rattle.words.specs.declared.Refused.{Refused as Declined}
 use Rattle.formula.specs.Formula.{Formula}
 use Rattle.tree.specs.Budget.{clear, none, spent}
+use Rattle.code.specs.Code.{code}
+use Rattle.search.specs.Run.{Plan, blocks}
+use Rattle.search.specs.Machine.{blocks_of}
 use Rattle.search.specs.declared.codes.Codes.{Codes}
 use Rattle.horn.specs.Horn.{is_horn}
 use Rattle.decision.specs.Answers as Spec
@@ -17,7 +20,7 @@ unfoldable pub verdict_in : Verdict → Spec.Verdict
 verdict_in (Clear a c) = answered (clear (bits_of a) c)
 verdict_in (None c) = answered (none c)
 verdict_in (Spent c) = answered (spent c)
-verdict_in (Refused r) = Spec.refused (number_of r.reason) r.place
+verdict_in (Refused r) = Spec.refused r.number r.place
 
 unfoldable pub decision_in : Decision → Spec.Decision
 decision_in d = record { batch = d.batch; method = d.method; verdict = verdict_in d.verdict }
@@ -27,6 +30,10 @@ abbrev pub outcome_in : Result Decision Declined → Spec.Decision
 outcome_in (Ok d) = decision_in d
 outcome_in (Err r) = Spec.refusal (number_of r.reason) r.place
 
--- Where the clauses are searched by balls, the codes are of as many variables.
+-- Where the clauses are searched by balls, the codes are of as many variables,
 abbrev pub Coded : Formula → Codes → Type 0
 Coded f c = is_horn f.clauses ≡ false → f.n ≡ c.n
+
+-- and their blocks are those of a plan.
+abbrev pub Planned : Plan → Formula → Codes → Type 0
+Planned p f c = is_horn f.clauses ≡ false → blocks_of c ≡ blocks code p f.n

@@ -1,21 +1,21 @@
 // A sheet decided by a plan within a budget, or by splitting, and the numbers of a decision.
 #![tactic(auto)]
 
-ghost use Rattle.std.specs.Prelude.{◌≡◌};
+ghost use Rattle.std.specs.Prelude.{◌≡◌, true, ℕ};
 ghost use Rattle.words.specs.Machine.{bits_of};
-ghost use Rattle.words.specs.Refusals.{number_of};
 ghost use Rattle.formula.specs.Reading.{formula_of};
 ghost use Rattle.tree.specs.Machine.{answer_in};
 ghost use Rattle.search.specs.Run.{plan};
 ghost use Rattle.search.specs.Machine.{plan_in};
+ghost use Rattle.horn.specs.Horn.{is_horn};
 ghost use Rattle.decision.specs.Answers.{answered, refusal, judged, decision, split_decision, ending_number, method_number, counts, declines, reply_of};
-ghost use Rattle.decision.specs.Machine.{verdict_in, decision_in, outcome_in, Coded};
+ghost use Rattle.decision.specs.Machine.{verdict_in, decision_in, outcome_in, Coded, Planned};
 
 use code::Plan;
 use formula::Sheet;
 use search::Codes;
 use tree::Found;
-use words::{Assignment, Refused};
+use words::{Assignment, Refusal, Refused};
 
 // How a decision ended: what a reply tells of its verdict.
 #[derive(Clone, Copy, PartialEq, Eq, Debug)]
@@ -40,7 +40,7 @@ pub enum Verdict {
     Clear(Assignment, u32),
     None(u32),
     Spent(u32),
-    Refused(Refused),
+    Refused(Refusal),
 }
 
 // How a sheet was decided: by rounds where it is Horn, and otherwise by balls. A refusal names no
@@ -110,8 +110,8 @@ pub fn decided(batch: u32, method: Method, found: Found) -> Decision
 }
 
 // The decision of a refusal: nothing else belongs to it.
-pub fn refused(why: Refused) -> Decision
-    ensures { decision_in result ≡ refusal (number_of why.reason) why.place }
+pub fn refused(why: Refusal) -> Decision
+    ensures { decision_in result ≡ refusal why.number why.place }
 {
     Decision {
         batch: 0,
@@ -125,18 +125,21 @@ pub fn refused(why: Refused) -> Decision
 pub fn lay_out(sheet: &Sheet, codes: &mut Codes)
     ensures named { codes.new.plan ≡ codes.old.plan }
     ensures coded { Coded (formula_of sheet.now) codes.new }
+    ensures planned { Planned (plan_in codes.old.plan) (formula_of sheet.now) codes.new }
+    ensures kept { is_horn (formula_of sheet.now).clauses ≡ true → codes.new ≡ codes.old }
 {
-    if !horn::is_horn(sheet) {
+    if !horn::is_horn(sheet.clauses()) {
         codes.lay_out(sheet.n);
     }
 }
 
-// The decision on a sheet, by the codes of a plan.
+// The decision on a sheet by codes: that of whichever plan they are of.
 pub fn decide_laid(sheet: &Sheet, codes: &Codes, budget: u32) -> Decision
     requires { Coded (formula_of sheet.now) codes.now }
-    ensures { decision_in result ≡ judged (plan_in codes.now.plan) budget (formula_of sheet.now) }
+    ensures { (size radius : ℕ) → Planned (plan size radius) (formula_of sheet.now) codes.now →
+        decision_in result ≡ judged (plan size radius) budget (formula_of sheet.now) }
 {
-    if horn::is_horn(sheet) {
+    if horn::is_horn(sheet.clauses()) {
         let found = horn::rounds(sheet, budget);
         return decided(sheet.batch, Method::Horn, found);
     }
@@ -167,7 +170,7 @@ fn accepted(size: u32, radius: u32, budget: u32, bytes: &[u8]) -> Result<Decisio
 pub fn decide(size: u32, radius: u32, budget: u32, sheet: &[u8]) -> Decision
     ensures { decision_in result ≡ decision (plan size radius) budget sheet.now }
 {
-    accepted(size, radius, budget, sheet).unwrap_or_else(refused)
+    accepted(size, radius, budget, sheet).unwrap_or_else(|why| refused(Refusal::from(why)))
 }
 
 // The decision by splitting on an accepted sheet, or its refusal.
@@ -184,7 +187,7 @@ fn split(budget: u32, bytes: &[u8]) -> Result<Decision, Refused>
 pub fn decide_by_splitting(budget: u32, sheet: &[u8]) -> Decision
     ensures { decision_in result ≡ split_decision budget sheet.now }
 {
-    split(budget, sheet).unwrap_or_else(refused)
+    split(budget, sheet).unwrap_or_else(|why| refused(Refusal::from(why)))
 }
 
 // The reply of a search.
@@ -206,8 +209,8 @@ fn counted(ending: Ending, batch: u32, method: Method, marks: Assignment, calls:
 }
 
 // The reply of a refusal: everything else is 0.
-pub fn declined(why: Refused) -> Reply
-    ensures { result ≡ declines (number_of why.reason) why.place }
+pub fn declined(number: u32, place: u32) -> Reply
+    ensures { result ≡ declines number place }
 {
     Reply {
         verdict: Ending::Refused.number(),
@@ -218,8 +221,8 @@ pub fn declined(why: Refused) -> Reply
         marks2: 0,
         marks3: 0,
         calls: 0,
-        number: why.reason.number(),
-        place: why.place,
+        number,
+        place,
     }
 }
 
@@ -239,7 +242,7 @@ impl From<Decision> for Reply {
                 Assignment::zero(),
                 calls,
             ),
-            Verdict::Refused(why) => declined(why),
+            Verdict::Refused(why) => declined(why.number, why.place),
         }
     }
 }

@@ -11,7 +11,7 @@ ghost use Rattle.formula.specs.Reading.{formula_of};
 ghost use Rattle.search.specs.Run.{plan};
 ghost use Rattle.search.specs.Machine.{plan_in};
 ghost use Rattle.decision.specs.Answers.{method_of};
-ghost use Rattle.decision.specs.Machine.{verdict_in, decision_in, outcome_in, Coded};
+ghost use Rattle.decision.specs.Machine.{verdict_in, decision_in, outcome_in, Coded, Planned};
 ghost use Rattle.deletion.specs.Core.{only, sift, deletion, core_to};
 ghost use Rattle.deletion.specs.Machine.{Trying, Onward, Ends, sifted_in, Leaves};
 
@@ -20,7 +20,7 @@ use decision::{Decision, Method, Verdict, decide_laid, lay_out, refused};
 use formula::Sheet;
 use kept::Kept;
 use search::Codes;
-use words::{Reason, Refused};
+use words::{Reason, Refusal, Refused};
 
 // A trial without clause i: the clauses before it, and those kept behind it.
 fn put_rest(sheet: &Sheet, i: usize, kept: &Kept, trial: &mut Sheet)
@@ -55,7 +55,8 @@ fn turn(rest: Decision, i: usize, kept: &mut Kept) -> Result<(), Decision>
 // Goes through the clauses of a sheet from last to first: the numbers kept, or the decision of a run
 // that is spent.
 fn sift(sheet: &Sheet, codes: &Codes, budget: u32) -> Result<Kept, Decision>
-    requires { Coded (formula_of sheet.now) codes.now }
+    requires coded { Coded (formula_of sheet.now) codes.now }
+    requires planned { Planned (plan_in codes.now.plan) (formula_of sheet.now) codes.now }
     ensures sifted { sifted_in (formula_of sheet.now) result ≡
         sift (plan_in codes.now.plan) budget (formula_of sheet.now) sheet.now.count [] }
     ensures few { IfOk result (λ kept. length kept ≤ sheet.now.count) }
@@ -78,6 +79,7 @@ fn sift(sheet: &Sheet, codes: &Codes, budget: u32) -> Result<Kept, Decision>
 // The core of a sheet of which a run has said none, by its method: the numbers kept go to the list.
 fn core_of(sheet: &Sheet, method: Method, codes: &Codes, budget: u32, list: &mut [u16]) -> Decision
     requires coded { Coded (formula_of sheet.now) codes.now }
+    requires planned { Planned (plan_in codes.now.plan) (formula_of sheet.now) codes.now }
     requires method_value { (method ≡ method_of (formula_of sheet.now)) × (sheet.now.count ≤ length list.old) }
     ensures { Leaves (sift (plan_in codes.now.plan) budget (formula_of sheet.now) sheet.now.count []) list.old
         (decision_in result) list.new }
@@ -136,5 +138,5 @@ pub fn find_core(size: u32, radius: u32, budget: u32, sheet: &[u8], list: &mut [
     ensures { Leaves (core_to (plan size radius) budget sheet.now (length list.old)) list.old
         (decision_in result) list.new }
 {
-    accepted(size, radius, budget, sheet, list).unwrap_or_else(refused)
+    accepted(size, radius, budget, sheet, list).unwrap_or_else(|why| refused(Refusal::from(why)))
 }

@@ -18,3 +18,4 @@ pub mod WordLaws
 pub mod LiteralsLaws
 pub mod ClausesLaws
 pub mod WholeLaws
+pub mod ReadingLaws

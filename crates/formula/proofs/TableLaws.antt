@@ -198,6 +198,18 @@ pub clause_known : (n k : ℕ) (cells : List ℕ) → Table n k cells → (i : �
     (2 ≤ literal_at cells i j) × (literal_at cells i j < 2 * n + 2)
 clause_known n k cells table i inside = row_known (table_row table i inside) n (table.each i inside)
 
+-- Where literals are over the variables 1 to n, each of their words is that of one.
+pub words_known : {n : ℕ} {c : Clause} → WellFormedClause n c → (ws : List ℕ) → map literal_of ws ≡ c → (j : ℕ) → j < length ws →
+    (2 ≤ get_or ws j 0) × (get_or ws j 0 < 2 * n + 2)
+unfolding literal_of
+words_known {n} f ws same = go ws (λ l i. f.known l (subst (In l) same i))
+  where
+    go : (ws : List ℕ) → ((l : Literal) → In l (map literal_of ws) → (1 ≤ l.variable) × (l.variable ≤ n)) → (j : ℕ) → j < length ws →
+        (2 ≤ get_or ws j 0) × (get_or ws j 0 < 2 * n + 2)
+    go [] h j l = absurd (omega arith)
+    go (w ∷ ws) h zero l = let v = h (literal_of w) (Memᴰ.head refl) in (omega arith, omega arith)
+    go (w ∷ ws) h (suc j) l = go ws (λ x i. h x (Memᴰ.tail i)) j (omega arith)
+
 -- a table over n variables is one over more
 pub table_wider : (n m k : ℕ) (cells : List ℕ) → n ≤ m → Table n k cells → Table m k cells
 table_wider n m k cells l t = record { size = t.size; room = t.room; short = t.short; each = λ i h. wider (t.each i h) }

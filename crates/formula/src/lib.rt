@@ -3,6 +3,7 @@
 #![tactic(auto)]
 
 mod literal;
+mod rows;
 mod sets;
 mod sheet;
 mod table;
@@ -15,6 +16,7 @@ ghost use Rattle.formula.specs.Sheet.{words, take_number, take_literal, take_lit
 ghost use Rattle.formula.specs.Machine.{cell_count, result_in, kind_number, word_taken, formula_in, Named, LiteralsFit, LiteralsLeft, ClauseFits, ClauseLeft, ClausesFit, ClausesLeft, SheetLeft};
 
 pub use literal::Literal;
+pub use rows::ClauseRows;
 pub use sets::{first_lacking, same_clauses};
 pub use sheet::Sheet;
 use words::{Assignment, Reason, Refused};

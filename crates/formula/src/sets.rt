@@ -1,4 +1,4 @@
-// Clauses as sets of literals: whether those of one sheet stand in another (specs/Sets.antt). A
+// Clauses as sets of literals: whether those of one table stand in another (specs/Sets.antt). A
 // clause is given by the words of its literals.
 ghost use Rattle.std.specs.Prelude.{◌≡◌, ◌<◌, ◌≤◌, map, length};
 ghost use Rattle.words.specs.Lists.{some};
@@ -7,7 +7,7 @@ ghost use Rattle.formula.specs.Machine.{held, mask_of, Masks};
 ghost use Rattle.formula.specs.Sheet.{header_words};
 ghost use Rattle.formula.specs.Sets.{same_literal, within, same_set, stands, same_clauses, first_lacking};
 
-use crate::sheet::Sheet;
+use crate::rows::ClauseRows;
 use crate::{CLAUSES, HEADER_WORDS};
 
 // The literal with this word stands in d.
@@ -40,46 +40,46 @@ fn mask(clause: &[u32]) -> u64
         .fold(0, |bits, word| bits | (1u64 << (*word % 64)))
 }
 
-// The masks of a sheet's clauses.
-fn clause_masks(sheet: &Sheet) -> [u64; CLAUSES]
-    ensures { Masks sheet.now.count sheet.now.cells result }
+// The masks of clauses in a table.
+fn clause_masks(clauses: ClauseRows<'_>) -> [u64; CLAUSES]
+    ensures { Masks clauses.entry.count clauses.entry.cells.now result }
 {
     let mut masks = [0; CLAUSES];
-    for i in 0..sheet.count {
-        masks[i] = mask(sheet.clause(i));
+    for i in 0..clauses.count {
+        masks[i] = mask(clauses.clause(i));
     }
     masks
 }
 
-// A clause is, as a set, one of the sheet's: masks are compared first.
-fn clause_stands(clause: &[u32], sheet: &Sheet, masks: &[u64; CLAUSES]) -> bool
-    requires { Masks sheet.now.count sheet.now.cells masks.now }
-    ensures { result ≡ some (same_set (map literal_of clause.now)) (held sheet.now.count sheet.now.cells) }
+// A clause is, as a set, one of those in a table: masks are compared first.
+fn clause_stands(clause: &[u32], clauses: ClauseRows<'_>, masks: &[u64; CLAUSES]) -> bool
+    requires { Masks clauses.count clauses.cells.now masks.now }
+    ensures { result ≡ some (same_set (map literal_of clause.now)) (held clauses.entry.count clauses.entry.cells.now) }
 {
     let own = mask(clause);
-    for k in 0..sheet.count {
-        if own == masks[k] && same_set(clause, sheet.clause(k)) {
+    for k in 0..clauses.count {
+        if own == masks[k] && same_set(clause, clauses.clause(k)) {
             return true;
         }
     }
     false
 }
 
-// The same. Further clauses mostly come behind the others: the sheet's clause i, with the same
+// The same. Further clauses mostly come behind the others: the clause i of the table, with the same
 // number, is looked at first.
-fn stands_still(clause: &[u32], i: usize, sheet: &Sheet, masks: &[u64; CLAUSES]) -> bool
-    requires { Masks sheet.now.count sheet.now.cells masks.now }
-    ensures { result ≡ some (same_set (map literal_of clause.now)) (held sheet.now.count sheet.now.cells) }
+fn stands_still(clause: &[u32], i: usize, clauses: ClauseRows<'_>, masks: &[u64; CLAUSES]) -> bool
+    requires { Masks clauses.count clauses.cells.now masks.now }
+    ensures { result ≡ some (same_set (map literal_of clause.now)) (held clauses.entry.count clauses.entry.cells.now) }
 {
-    if i < sheet.count && same_set(clause, sheet.clause(i)) {
+    if i < clauses.count && same_set(clause, clauses.clause(i)) {
         return true;
     }
-    clause_stands(clause, sheet, masks)
+    clause_stands(clause, clauses, masks)
 }
 
 // The place in a of its first clause that is, as a set, none of b's.
-pub fn first_lacking(a: &Sheet, b: &Sheet) -> Option<u32>
-    ensures { result ≡ first_lacking header_words (held a.now.count a.now.cells) (held b.now.count b.now.cells) }
+pub fn first_lacking(a: ClauseRows<'_>, b: ClauseRows<'_>) -> Option<u32>
+    ensures { result ≡ first_lacking header_words (held a.entry.count a.entry.cells.now) (held b.entry.count b.entry.cells.now) }
 {
     let masks = clause_masks(b);
     let mut place = HEADER_WORDS;
@@ -94,15 +94,15 @@ pub fn first_lacking(a: &Sheet, b: &Sheet) -> Option<u32>
 }
 
 // Each clause of a is, as a set, one of b's.
-fn clauses_stand(a: &Sheet, b: &Sheet) -> bool
-    ensures { result ≡ stands (held a.now.count a.now.cells) (held b.now.count b.now.cells) }
+fn clauses_stand(a: ClauseRows<'_>, b: ClauseRows<'_>) -> bool
+    ensures { result ≡ stands (held a.entry.count a.entry.cells.now) (held b.entry.count b.entry.cells.now) }
 {
     first_lacking(a, b).is_none()
 }
 
-// Two sheets have the same clauses, each taken as a set.
-pub fn same_clauses(a: &Sheet, b: &Sheet) -> bool
-    ensures { result ≡ same_clauses (held a.now.count a.now.cells) (held b.now.count b.now.cells) }
+// Two tables hold the same clauses, each taken as a set.
+pub fn same_clauses(a: ClauseRows<'_>, b: ClauseRows<'_>) -> bool
+    ensures { result ≡ same_clauses (held a.entry.count a.entry.cells.now) (held b.entry.count b.entry.cells.now) }
 {
     clauses_stand(a, b) && clauses_stand(b, a)
 }

@@ -4,8 +4,9 @@ ghost use Rattle.words.specs.Bits.{width};
 ghost use Rattle.formula.specs.Machine.{Table, length_at, literal_at};
 
 use crate::literal::Literal;
+use crate::rows::ClauseRows;
 use crate::table::{copy_row, length_at, literal_at};
-use crate::{CELLS, ROW_CELLS, read_into};
+use crate::{CELLS, read_into};
 use words::Refused;
 
 // It holds `count` clauses over the variables 1 to n, as many as an assignment has room for.
@@ -50,6 +51,16 @@ impl Sheet {
         Ok(())
     }
 
+    // Its clauses, in the rows of its table.
+    pub fn clauses(&self) -> ClauseRows<'_>
+        ensures { (result.cells.now ≡ self.now.cells) × (result.count ≡ self.now.count) }
+    {
+        ClauseRows {
+            cells: &self.cells,
+            count: self.count,
+        }
+    }
+
     // The length of clause i.
     pub fn length_at(&self, i: usize) -> u32
         requires { i < self.now.count }
@@ -75,8 +86,7 @@ impl Sheet {
         ensures size { (length result.now ≡ length_at self.now.cells i) × (length result.now ≤ length_limit) }
         ensures each { (j : ℕ) → j < length result.now → IsLiteral (get_or result.now j 0) }
     {
-        let start = ROW_CELLS * i + 1;
-        &self.cells[start..start + self.length_at(i) as usize]
+        self.clauses().clause(i)
     }
 
     // Keeps the first `count` clauses.

@@ -3,7 +3,7 @@
 
 ghost use Rattle.std.specs.Prelude.{◌≡◌, true, map, ℕ, ◌<◌, leb, length, get_or};
 ghost use Rattle.formula.specs.Formula.{literal_of};
-ghost use Rattle.formula.specs.Machine.{IsLiteral};
+ghost use Rattle.formula.specs.Machine.{IsLiteral, held};
 ghost use Rattle.formula.specs.Reading.{formula_of};
 ghost use Rattle.tree.specs.Budget.{answer};
 ghost use Rattle.tree.specs.Machine.{answer_in};
@@ -11,8 +11,8 @@ ghost use Rattle.planes.specs.Machine.{word_of};
 ghost use Rattle.horn.specs.Horn.{positives, is_horn, rounds};
 ghost use Rattle.horn.specs.Machine.{first_word, Sets};
 
-use formula::{Literal, Sheet};
-use planes::{Kind, Occurrences, PLANES, Rows};
+use formula::{ClauseRows, Literal, Sheet};
+use planes::{Kind, Occurrences, PLANES, Rows, TableRow};
 use tree::Found;
 use words::Assignment;
 
@@ -24,12 +24,12 @@ fn at_most_one(clause: &[u32]) -> bool
     clause.iter().filter(|word| **word % 2 == 0).count() <= 1
 }
 
-// Each clause of a sheet has at most one positive literal.
-pub fn is_horn(sheet: &Sheet) -> bool
-    ensures { result ≡ is_horn (formula_of sheet.now).clauses }
+// Each of the clauses in a table has at most one positive literal.
+pub fn is_horn(clauses: ClauseRows<'_>) -> bool
+    ensures { result ≡ is_horn (held clauses.entry.count clauses.entry.cells.now) }
 {
-    for i in 0..sheet.count {
-        if !at_most_one(sheet.clause(i)) {
+    for i in 0..clauses.count {
+        if !at_most_one(clauses.clause(i)) {
             return false;
         }
     }
@@ -56,8 +56,8 @@ fn set(occ: &Occurrences, literal: Literal, planes: &mut [u64; PLANES])
     ensures { Sets occ.now.count literal.word occ.now.table planes.old planes.new }
 {
     let positive = Rows {
-        up: None,
-        down: None,
+        up: TableRow::NONE,
+        down: TableRow::NONE,
     };
     let before = *planes;
     occ.shift(Rows::of(literal), positive, &before, planes);
@@ -72,7 +72,7 @@ pub fn rounds(sheet: &Sheet, budget: u32) -> Found
     let mut planes = occ.start(sheet.n);
     let mut at = Assignment::zero();
     for made in 0..budget {
-        let Some(first) = occ.next(None, Kind::Zero, &planes, 0) else {
+        let Some(first) = occ.next(TableRow::NONE, Kind::Zero, &planes, 0) else {
             return Found::Clear(at, made + 1);
         };
         let Some(literal) = first_positive(sheet.clause(first)) else {

@@ -133,8 +133,10 @@ pub struct Before {
 fn refuse_leg(declined: Declined, checkpoint: Checkpoint) -> LegEnd
     ensures { result ≡ refused_leg (sheet_number declined.sheet) (number_of declined.why.reason) declined.why.place checkpoint }
 {
+    let why = declined.why;
+    let reply = decision::declined(why.reason.number(), why.place);
     LegEnd {
-        reply: about(declined.sheet.number(), decision::declined(declined.why)),
+        reply: about(declined.sheet.number(), reply),
         checkpoint,
     }
 }
@@ -265,7 +267,7 @@ fn leg_sheet(
 ) -> Result<LegEnd, Declined>
     ensures { end_in checkpoint result ≡ sheet_leg before (plan_in plan) budget checkpoint (formula_of sheet.now) }
 {
-    if horn::is_horn(sheet) {
+    if horn::is_horn(sheet.clauses()) {
         return Ok(end_leg(decide_sheet(sheet, plan, budget), checkpoint));
     }
     leg_by_balls(sheet, before, plan, budget, checkpoint)
@@ -352,7 +354,7 @@ fn leg_grown(
         name: Which::Longer,
         batch: old.batch,
         n: old.n,
-        lacking: formula::first_lacking(&old, &sheet),
+        lacking: formula::first_lacking(old.clauses(), sheet.clauses()),
     };
     leg_sheet(&sheet, before, plan, budget, checkpoint)
 }

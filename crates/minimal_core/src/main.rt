@@ -21,7 +21,7 @@ fn answer(input: &[u8], list: &mut [u16]) -> Reply
     ensures cells { list.new ≡ list_after (program_core input.now (length list.old)).kept list.old }
 {
     let Some(asked) = Request::read(input) else {
-        return decision::declined(Reason::BadPlan.at(0));
+        return decision::declined(Reason::BadPlan.number(), 0);
     };
     engine::clash(asked.size, asked.radius, asked.budget, asked.sheet, list)
 }

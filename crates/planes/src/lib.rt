@@ -3,15 +3,17 @@
 
 mod clause_sets;
 mod occurrences;
+mod table_row;
 
 ghost use Rattle.std.specs.Prelude.{◌≡◌, map, ℕ, ◌+◌, ◌*◌, ◌≤◌, ◌<◌, eqb, leb, length, get_or};
 ghost use Rattle.words.specs.Bits.{bit};
 ghost use Rattle.formula.specs.Formula.{literal_of};
 ghost use Rattle.formula.specs.Counts.{opposite};
-ghost use Rattle.planes.specs.Machine.{lanes, row_words, lane_count, row_count, word_of, first_counter, second_counter, slots, count_in, planes_at, Told, test_of, Marked, Moved, ZerosAfter, Stored};
+ghost use Rattle.planes.specs.Machine.{lanes, row_words, lane_count, row_count, first_counter, second_counter, slots, count_in, planes_at, Told, test_of, Marked, Moved, ZerosAfter, Stored};
 
 use formula::Literal;
 pub use occurrences::Occurrences;
+pub use table_row::TableRow;
 
 // The sizes of specs/Machine.antt: lanes of a word and of two words, words of a row, cells of the
 // occurrence table, slots of two counters, and cells of an array of planes.
@@ -35,22 +37,21 @@ const FIRST: usize = 0;
 
 const SECOND: usize = ROW;
 
-// Two literals: a number goes up in the clauses that hold one, and down in those that hold the
-// other.
+// Two rows: a number goes up in the clauses of one, and down in those of the other.
 #[derive(Clone, Copy)]
 pub struct Rows {
-    pub up: Option<Literal>,
-    pub down: Option<Literal>,
+    pub up: TableRow,
+    pub down: TableRow,
 }
 
 impl Rows {
     // A literal and its opposite.
     pub fn of(literal: Literal) -> Rows
-        ensures { (word_of result.up ≡ literal.word) × (word_of result.down ≡ opposite literal.word) }
+        ensures { (result.up.word ≡ literal.word) × (result.down.word ≡ opposite literal.word) }
     {
         Rows {
-            up: Some(literal),
-            down: Some(literal.opposite()),
+            up: TableRow::of(literal),
+            down: TableRow::of(literal.opposite()),
         }
     }
 }
@@ -150,17 +151,6 @@ fn put_slot(planes: &mut [u64; PLANES], slot: usize, word: Planes)
     planes[slot + SLOTS] = word.p1;
     planes[slot + 2 * SLOTS] = word.p2;
     planes[slot + 3 * SLOTS] = word.p3;
-}
-
-// Where the row of a literal begins. Where there is none it is the row of the word 0, which is
-// empty, so that nobody has to ask.
-fn row_of(literal: Option<Literal>) -> usize
-    ensures { (result ≡ word_of literal * row_words) × (word_of literal < row_count) }
-{
-    match literal {
-        Some(literal) => literal.word as usize * ROW,
-        None => 0,
-    }
 }
 
 // The lane of clause i in the rows of its literals, which are given by their words.

@@ -3,8 +3,8 @@ ghost use Rattle.std.specs.Prelude.{◌≤◌};
 ghost use Rattle.planes.specs.Machine.{lane_count};
 
 use crate::{
-    FIRST, Kind, LANES, OCCURRENCES, PAIR, PLANES, Planes, ROW, Rows, SECOND, clause_sets,
-    lanes_of, mark, past, put_slot, row_of, slot_at,
+    FIRST, Kind, LANES, OCCURRENCES, PAIR, PLANES, Planes, ROW, Rows, SECOND, TableRow,
+    clause_sets, lanes_of, mark, past, put_slot, slot_at,
 };
 use formula::{Literal, Sheet};
 use words::Set;
@@ -16,7 +16,7 @@ use words::Set;
 pub struct Occurrences {
     pub table: [u64; OCCURRENCES],
     pub count: usize,
-    ghost within: { count ≤ lane_count },
+    pub ghost within: { count ≤ lane_count },
 }
 
 impl Occurrences {
@@ -24,7 +24,7 @@ impl Occurrences {
     ghost use Rattle.words.specs.Bits.{bit, width};
     ghost use Rattle.words.specs.Machine.{set_of};
     ghost use Rattle.formula.specs.Formula.{Clause};
-    ghost use Rattle.planes.specs.Machine.{lanes, row_words, word_of, words_of, first_counter, second_counter, slots, plane_cells, Counts, FirstFound, wanted, Occurs, set_at, ShiftedSlot, Shifted, AboveZero, Summed, Starts};
+    ghost use Rattle.planes.specs.Machine.{lanes, row_words, words_of, first_counter, second_counter, slots, plane_cells, Counts, FirstFound, wanted, Occurs, set_at, ShiftedSlot, Shifted, AboveZero, Summed, Starts};
 
     // Those in the clauses of a sheet.
     pub fn of(sheet: &Sheet) -> Occurrences
@@ -104,23 +104,23 @@ impl Occurrences {
         to: &mut [u64; PLANES],
     )
         requires { (w < row_words) × (slot < slots) }
-        ensures { ShiftedSlot w slot (word_of rows.up) (word_of rows.down) self.now.table from.now
+        ensures { ShiftedSlot w slot rows.up.word rows.down.word self.now.table from.now
             to.old to.new }
     {
-        let up = self.table[row_of(rows.up) + w];
-        let down = self.table[row_of(rows.down) + w];
+        let up = self.table[rows.up.first_cell() + w];
+        let down = self.table[rows.down.first_cell() + w];
         let next = slot_at(from, slot).moved(up, down);
         put_slot(to, slot, next);
     }
 
-    // Each counter by its rows: one more for the clauses that hold the literal `up`, and one less
-    // for those that hold `down`. Where it is called it is known which rows are empty, and that the
-    // planes do not overlap.
+    // Each counter by its rows: one more for the clauses of the row `up`, and one less for those of
+    // the row `down`. Where it is called it is known which rows are empty, and that the planes do
+    // not overlap.
     #[inline(always)]
     pub fn shift(&self, first: Rows, second: Rows, from: &[u64; PLANES], to: &mut [u64; PLANES])
         ensures to_len { length to.new ≡ plane_cells }
-        ensures shifted { Shifted self.now.count first_counter (word_of first.up) (word_of first.down) self.now.table from.now to.new }
-        ensures shifted_2 { Shifted self.now.count second_counter (word_of second.up) (word_of second.down) self.now.table from.now to.new }
+        ensures shifted { Shifted self.now.count first_counter first.up.word first.down.word self.now.table from.now to.new }
+        ensures shifted_2 { Shifted self.now.count second_counter second.up.word second.down.word self.now.table from.now to.new }
     {
         // An even number of words, so that two are moved at a time: what goes on past the last
         // clause does not matter.
@@ -131,23 +131,26 @@ impl Occurrences {
         }
     }
 
-    // The lanes of word w of the clauses that hold a literal, or all lanes where there is none to
-    // hold.
-    fn holding(&self, literal: Option<Literal>, w: usize) -> u64
+    // The lanes of word w of the clauses that hold a row's literal, or all lanes where there is none
+    // to hold.
+    fn holding(&self, row: TableRow, w: usize) -> u64
         requires { w < row_words }
         ensures { (j : ℕ) → j < lanes →
-            bit result j ≡ (eqb (word_of literal) 0 || bit (get_or self.now.table (word_of literal * row_words + w) 0) j) }
+            bit result j ≡ (eqb row.word 0 || bit (get_or self.now.table (row.word * row_words + w) 0) j) }
     {
-        match literal {
-            Some(literal) => self.table[literal.word as usize * ROW + w],
-            None => !0u64,
+        if row.word == 0 {
+            !0u64
+        } else {
+            self.table[row.first_cell() + w]
         }
     }
 
-    // The first clause of a kind from number `from` on, of those that hold a literal, or of all.
+    // The first clause of a kind from number `from` on, of those that hold a row's literal, or of
+    // all where there is none to hold. Where it is called the kind is known.
+    #[inline]
     pub fn next(
         &self,
-        literal: Option<Literal>,
+        row: TableRow,
         kind: Kind,
         planes: &[u64; PLANES],
         from: usize,
@@ -156,12 +159,12 @@ impl Occurrences {
         ensures within { IfSome result (λ i. (from ≤ i) × (i < lane_count)) }
         ensures by_index { (cells : List ℕ) (count count' : Clause → ℕ) → Occurs self.now.count cells self.now.table →
             Counts self.now.count cells first_counter count planes.now → Counts self.now.count cells second_counter count' planes.now →
-            FirstFound from self.now.count (wanted kind (word_of literal) cells count count') result }
+            FirstFound from self.now.count (wanted kind row.word cells count count') result }
     {
         let start = from / LANES;
         let mut seen = past(from, start);
         for w in start..self.words() {
-            let found = lanes_of(planes, w, kind) & self.holding(literal, w) & seen;
+            let found = lanes_of(planes, w, kind) & self.holding(row, w) & seen;
             if found != 0 {
                 return Some(LANES * w + u64::trailing_zeros(found) as usize);
             }
@@ -173,10 +176,10 @@ impl Occurrences {
     // Whether every first number would be above 0 after `shift` by these rows: the last level of a
     // search asks this alone, and stores no planes.
     pub fn above_zero_after(&self, rows: Rows, planes: &[u64; PLANES]) -> bool
-        ensures { AboveZero self.now.count (word_of rows.up) (word_of rows.down) self.now.table planes.now result }
+        ensures { AboveZero self.now.count rows.up.word rows.down.word self.now.table planes.now result }
     {
-        let more = row_of(rows.up);
-        let less = row_of(rows.down);
+        let more = rows.up.first_cell();
+        let less = rows.down.first_cell();
         for w in 0..self.words() {
             let zeros = slot_at(planes, FIRST + w).zeros_after(
                 self.table[more + w],

@@ -1,23 +1,25 @@
--- The codes that are held for a plan stand for its blocks, and a centre is put together block by block.
-use Rattle.std.specs.Prelude.{◌≡◌, refl, Bool, true, false, None, List, [], ◌∷◌, ◌++◌, ℕ, zero, suc, ◌+◌, ◌-◌, ◌*◌, ◌/◌, ◌%◌, ◌^◌, ◌≤◌, ◌<◌, min, leb, length, get_or, take, replicate, drop}
+-- A centre is put together block by block, and the codes that are made for a plan are its own.
+use Rattle.std.specs.Prelude.{◌≡◌, cond, eqb, Option, None, Some, List, [], ◌∷◌, ◌++◌, ℕ, suc, ◌+◌, ◌-◌, ◌*◌, ◌/◌, ◌%◌, ◌^◌, ◌≤◌, ◌<◌, min, length, get_or, take, drop, replicate}
 use Rattle.std.proofs.Math.Path.{sym}
-use Rattle.std.proofs.Common.{ap, ◌∙◌, subst, add-mul, mul_assoc, add_assoc, mul_comm, add_comm, suc-mul, mul-le-mul_right, zero-mul, zero-add, div-one, add-zero, div-add-mod', one-mul, mul-zero, pow-suc, le-mul_of_pos_right, add-one, arith, get_or-take, div-lt_iff_lt-mul, le-div_iff_mul-le, pow-add}
-use Rattle.std.proofs.Math.Nat.{div-div-eq-div-mul, sub-zero, mul-one, mul-le-mul_left, pow-zero}
-use borrow.Author.Tests.{eq-eqb, ne_eqb, leb-true, leb-false}
+use Rattle.std.proofs.Common.{ap, ap₂, ◌∙◌, subst, div-add-mod', add-mul, mul_assoc, add_assoc, mod-lt, mul_comm, add_comm, suc-mul, mul-le-mul_right, zero-mul, zero-add, div-one, add-zero, one-mul, mul-zero, add-one, arith, length-append, get_or-take, length-take-le, div-lt_iff_lt-mul, le-div_iff_mul-le, pow-add}
+use Rattle.std.proofs.Math.Nat.{div-div-eq-div-mul, sub-zero, mul-one, mul-le-mul_left}
+use borrow.Author.Tests.{eq-eqb, ne_eqb}
 use Rattle.std.proofs.Math.Seq.{take-append_seam}
 use Rattle.words.specs.Bits.{width}
 use Rattle.words.specs.Machine.{bits_of}
 use Rattle.search.specs.declared.block_code.BlockCode.{BlockCode}
 use Rattle.search.specs.declared.codes.Codes.{Codes}
 use Rattle.search.specs.declared.partial.Partial.{Partial}
-use Rattle.search.specs.Run.{Block, centre_at, centre_count, block_of, short_block, blocks, summed_radius}
+use Rattle.search.specs.declared.layout.Layout.{Layout}
+use Rattle.search.specs.Run.{Plan, Block, centre_at, centre_count, block_of, short_block, blocks}
+use Rattle.search.specs.Blocks.{block_size, block_radius, variables_in, reach_in, block_in, copies, blocks_in, Coded, Laid, Holds}
 use Rattle.code.specs.Code.{code}
 use Rattle.code.proofs.CodeLaws.{code_covers, code_within}
 use Rattle.code.specs.Operations.{written}
 use Rattle.code.specs.Machine.{Filled}
-use Rattle.search.proofs.CentreLaws.{Covered, Covering, words_some, get_or_within, centre_lt, blocks_size, blocks_covered}
-use Rattle.search.proofs.LegLaws.{some_centre}
-use Rattle.search.specs.Machine.{plan_in, block_in, blocks_of, last_of, Joined, Towards, Midway, most_centres}
+use Rattle.search.proofs.CentreLaws.{Covered, words_some, get_or_within}
+use Rattle.search.proofs.LayoutLaws.{no_copies, laid_some}
+use Rattle.search.specs.Machine.{blocks_of, Joined, Towards, Midway}
 
 -- ---- a centre
 
@@ -48,14 +50,17 @@ join_lt size shift w m p q =
     let all : suc w * 2 ^ shift ≤ 2 ^ size * 2 ^ shift = mul-le-mul_right (2 ^ shift) p in
     omega (arith, suc-mul w (2 ^ shift), pow-add 2 shift size, mul_comm (2 ^ shift) (2 ^ size))
 
-pub towards_step : (all bs : List Block) (i : ℕ) (b : BlockCode) (p q : Partial) → Joined b p q →
-    Towards all i (block_in b ∷ bs) p → Towards all i bs q
-unfolding block_of
-towards_step all bs i b p q joined so =
-    let step = centre_step (block_in b) bs p.left p.shift (bits_of p.assignment) b.count _ (sym b.counted) refl in
+pub towards_step : (all bs : List Block) (i : ℕ) (b : BlockCode) (cells : List ℕ) (p q : Partial) → Coded b cells → Joined b cells p q →
+    Towards all i (block_in b cells ∷ bs) p → Towards all i bs q
+unfolding block_in
+towards_step all bs i b cells p q coded joined so =
+    let len : length (take b.count cells) ≡ b.count = length-take-le b.count cells coded.held in
+    let word : get_or (take b.count cells) (p.left % b.count) 0 ≡ get_or cells (p.left % b.count) 0 =
+    get_or-take b.count cells (p.left % b.count) 0 (mod-lt p.left coded.some) in
+    let step = centre_step (block_in b cells) bs p.left p.shift (bits_of p.assignment) b.count _ len word in
     record {
       total = rw (joined.left, joined.shift, joined.reads) (sym step ∙ so.total);
-      left = rw joined.left (sym (count_step (block_in b) bs p.left b.count (sym b.counted)) ∙ so.left);
+      left = rw joined.left (sym (count_step (block_in b cells) bs p.left b.count len) ∙ so.left);
       below = joined.below;
     }
 
@@ -67,219 +72,195 @@ towards_end all i p so =
     let whole : 0 * 2 ^ p.shift + m ≡ m = ap (λ (x : ℕ). x + m) (zero-mul (2 ^ p.shift)) ∙ zero-add m in
     (sym whole ∙ so.total, sym (div-one p.left) ∙ so.left)
 
--- ---- a code
-
--- the engine's code covers
-pub covering : Covering code
-covering = record { covers = code_covers; within = code_within }
-
-covered : (t s : ℕ) → Covered (block_of code t s)
-unfolding block_of
-covered t s = record { covers = code_covers t s; within = code_within t s }
-
-module _ (b : BlockCode) where
-  -- it has a word,
-  pub code_some : 0 < b.count
-  unfolding block_of
-  code_some = rw b.counted (words_some (block_in b) (covered b.plan.size b.plan.radius))
-
-  -- and each is below 2 ^ its length.
-  pub word_lt : (k : ℕ) → get_or (code b.plan.size b.plan.radius) k 0 < 2 ^ b.plan.size
-  word_lt k = get_or_within b.plan.size (code b.plan.size b.plan.radius) (code_within b.plan.size b.plan.radius) k
-
-  -- a table that begins with its words holds them
-  pub word_at : (words : List ℕ) → take b.count words ≡ code b.plan.size b.plan.radius → (k : ℕ) → k < b.count →
-      get_or words k 0 ≡ get_or (code b.plan.size b.plan.radius) k 0
-  word_at words e k h = sym (get_or-take b.count words k 0 h) ∙ ap (λ (xs : List ℕ). get_or xs k 0) e
-
--- what the construction of a code leaves
-pub filled_words : (t s r : ℕ) (before after : List ℕ) → Filled t s r before after →
-    (r ≡ length (code t s)) × (take r after ≡ code t s)
-unfolding written
-filled_words t s r before after f =
-    (f.count, rw (f.cells, f.count) (take-append_seam (code t s) (drop (length (code t s)) before)))
-
--- ---- a product that is cut
-
--- one factor more, where all is cut at L
-pub min_product : (L x b : ℕ) → min (min x L * b) L ≡ min (x * b) L
-min_product L x b = go b (leb x L) refl
-  where
-    go : (b : ℕ) (t : Bool) → leb x L ≡ t → min (min x L * b) L ≡ min (x * b) L
-    go b true h = let l = leb-true x L h in let e : min x L ≡ x = omega arith in rw e
-    go zero false h = rw (mul-zero, mul-zero)
-    go (suc b) false h =
-        let l = leb-false x L h in
-        let e : min x L ≡ L = omega arith in
-        let low : L ≤ L * suc b = le-mul_of_pos_right L (omega arith) in
-        let high : x ≤ x * suc b = le-mul_of_pos_right x (omega arith) in
-        rw e (omega arith)
-
--- the same by a product that saturates
-pub product_cut : (x b made s r : ℕ) → made ≡ min x most_centres → s ≡ min (made * b) (2 ^ 64 - 1) → r ≡ min s most_centres →
-    r ≡ min (x * b) most_centres
-product_cut x b made s r g h k =
-    let cut : min (made * b) most_centres ≡ min (x * b) most_centres = rw g (min_product most_centres x b) in
-    omega arith
-
--- ---- the blocks of a plan
+-- ---- a centre of all blocks
 
 module _ (c : Codes) where
-  abbrev pub whole_count : ℕ
-  whole_count = c.n / c.plan.size
-
-  abbrev whole_block : Block
-  whole_block = block_of code c.plan.size c.plan.radius
-
-  -- the whole blocks, and the last one
-  pub blocks_split : blocks_of c ≡ replicate whole_count whole_block ++ last_of c
-  unfolding blocks
-  blocks_split = refl
-
-  -- all variables are in them
-  pub variables : whole_count * c.plan.size + c.n % c.plan.size ≡ c.n
-  variables = div-add-mod' c.n c.plan.size
-
-  -- there is a centre
-  pub blocks_some : 0 < centre_count (blocks_of c)
-  blocks_some = some_centre code covering (plan_in c.plan) c.n
+  -- the blocks that come after the whole ones
+  abbrev lasts : List Block
+  lasts = copies 1 c.layout.last c.last_words
 
   module _ (i : ℕ) where
     pub midway_start : (p : Partial) → bits_of p.assignment ≡ 0 → p.shift ≡ 0 → p.left ≡ i → Midway c i 0 p
+    unfolding blocks_in
     midway_start p e f g =
         record {
           within = omega arith;
-          shift = f ∙ sym (zero-mul c.plan.size);
-          towards = record {
-            total = rw (e, f, g, sub-zero, mul-one, add-zero, blocks_split);
-            left = rw (g, sub-zero, blocks_split);
-            below = rw (e, f) (omega arith);
-          };
+          shift = f ∙ sym (zero-mul (block_size c.layout.whole));
+          towards = record { total = rw (e, f, g, sub-zero, mul-one, add-zero); left = rw (g, sub-zero); below = rw (e, f) (omega arith) };
         }
 
-    -- there is room for one more block
-    pub midway_room : (j : ℕ) (p : Partial) → j < whole_count → Midway c i j p → p.shift + c.plan.size ≤ width
-    midway_room j p h m =
-        let all : suc j * c.plan.size ≤ whole_count * c.plan.size = mul-le-mul_right c.plan.size h in
-        omega (arith, suc-mul j c.plan.size, variables, m.shift, c.small)
+    module _ (j : ℕ) (b : BlockCode) (h : j < c.layout.blocks) (e : c.layout.whole ≡ Some b) where
+      -- there is room for one more block
+      pub midway_room : (p : Partial) → Midway c i j p → p.shift + b.size ≤ width
+      unfolding variables_in block_size
+      midway_room p m =
+          let fits = rw e at c.laid.fits in
+          let shift = rw e at m.shift in
+          let all : suc j * b.size ≤ c.layout.blocks * b.size = mul-le-mul_right b.size h in
+          omega (arith, suc-mul j b.size, fits, shift)
 
-    pub midway_step : (j : ℕ) (b : BlockCode) (p q : Partial) → j < whole_count → b.plan.size ≡ c.plan.size →
-        b.plan.radius ≡ c.plan.radius → Joined b p q → Midway c i j p → Midway c i (j + 1) q
-    midway_step j b p q h e f joined m =
-        let k : whole_count - j ≡ suc (whole_count - (j + 1)) = omega arith in
-        let ahead = subst (λ (k : ℕ). Towards (blocks_of c) i (replicate k whole_block ++ last_of c) p) k m.towards in
-        record {
-          within = omega arith;
-          shift = joined.shift ∙ rw (e, m.shift, add-one) (sym (suc-mul j c.plan.size));
-          towards = towards_step (blocks_of c) _ i b p q joined (rw (e, f) ahead);
-        }
+      pub midway_step : (p q : Partial) → Joined b c.whole_words p q → Midway c i j p → Midway c i (j + 1) q
+      unfolding copies block_size
+      midway_step p q joined m =
+          let k : c.layout.blocks - j ≡ suc (c.layout.blocks - (j + 1)) = omega arith in
+          let here = subst (λ (k : ℕ). Towards (blocks_of c) i (copies k c.layout.whole c.whole_words ++ lasts) p) k m.towards in
+          let ahead = subst (λ (o : Option BlockCode). Towards (blocks_of c) i (copies (suc (c.layout.blocks - (j + 1))) o c.whole_words ++ lasts) p) e here in
+          let after = towards_step (blocks_of c) _ i b c.whole_words p q (c.laid.wholes b e) joined ahead in
+          record {
+            within = omega arith;
+            shift = joined.shift ∙ rw (m.shift, e, add-one) (sym (suc-mul j b.size));
+            towards = subst (λ (o : Option BlockCode). Towards (blocks_of c) i (copies (c.layout.blocks - (j + 1)) o c.whole_words ++ lasts) q) (sym e) after;
+          }
 
     -- all whole blocks are done, or there is none
-    pub midway_all : (j e : ℕ) (p : Partial) → e ≡ whole_count → j ≤ e → e ≤ j → Midway c i j p → Midway c i whole_count p
-    midway_all j e p f low high m = let same : j ≡ whole_count = omega arith in subst (λ (x : ℕ). Midway c i x p) same m
+    pub midway_all : (j : ℕ) (p : Partial) → j ≤ c.layout.blocks → c.layout.blocks ≤ j → Midway c i j p → Midway c i c.layout.blocks p
+    midway_all j p low high m = let same : j ≡ c.layout.blocks = omega arith in subst (λ (x : ℕ). Midway c i x p) same m
 
-    pub midway_without : c.whole ≡ None → (p : Partial) → Midway c i 0 p → Midway c i whole_count p
-    midway_without e p m = subst (λ (x : ℕ). Midway c i x p) (sym (c.wholes.none e)) m
+    pub midway_without : c.layout.whole ≡ None → (p : Partial) → Midway c i 0 p → Midway c i c.layout.blocks p
+    unfolding copies block_size
+    midway_without e p m =
+        record {
+          within = omega arith;
+          shift = m.shift ∙ rw e (sym (mul-zero c.layout.blocks));
+          towards = subst (λ (o : Option BlockCode). Towards (blocks_of c) i (copies (c.layout.blocks - c.layout.blocks) o c.whole_words ++ lasts) p) (sym e)
+              (subst (λ (o : Option BlockCode). Towards (blocks_of c) i (copies (c.layout.blocks - 0) o c.whole_words ++ lasts) p) e m.towards);
+        }
 
     -- After all whole blocks the last one is still to come,
-    module _ (p : Partial) (m : Midway c i whole_count p) where
-      ahead : Towards (blocks_of c) i (last_of c) p
+    module _ (p : Partial) (m : Midway c i c.layout.blocks p) where
+      ahead : Towards (blocks_of c) i lasts p
       ahead =
-          let e : whole_count - whole_count ≡ 0 = omega arith in
-          subst (λ (k : ℕ). Towards (blocks_of c) i (replicate k whole_block ++ last_of c) p) e m.towards
+          let none : c.layout.blocks - c.layout.blocks ≡ 0 = omega arith in
+          let here = subst (λ (k : ℕ). Towards (blocks_of c) i (copies k c.layout.whole c.whole_words ++ lasts) p) none m.towards in
+          subst (λ (bs : List Block). Towards (blocks_of c) i (bs ++ lasts) p) (no_copies c.layout.whole c.whole_words) here
 
       -- if there is one.
-      pub midway_none : c.n % c.plan.size ≡ 0 → Towards (blocks_of c) i [] p
-      midway_none e = rw (eq-eqb (c.n % c.plan.size) 0 e) at ahead
+      pub midway_none : c.layout.last ≡ None → Towards (blocks_of c) i [] p × (p.shift ≡ c.n)
+      unfolding copies block_size variables_in
+      midway_none e = (
+        subst (λ (o : Option BlockCode). Towards (blocks_of c) i (copies 1 o c.last_words) p) e ahead,
+        m.shift ∙ sym (add-zero _) ∙ sym (rw e at c.variables),
+      )
 
-      pub midway_rest : p.shift + c.n % c.plan.size ≤ width
-      midway_rest = omega (arith, m.shift, variables, c.small)
+      module _ (b : BlockCode) (e : c.layout.last ≡ Some b) where
+        pub midway_rest : p.shift + b.size ≤ width
+        unfolding block_size variables_in
+        midway_rest = rw m.shift (rw e at c.laid.fits)
 
-      pub midway_one : (b : BlockCode) (q : Partial) → b.plan.size ≡ c.n % c.plan.size →
-          b.plan.radius ≡ min c.plan.radius (c.n % c.plan.size) → Joined b p q → Towards (blocks_of c) i [] q
-      unfolding short_block
-      midway_one b q e f joined =
-          let some : c.n % c.plan.size ≡ 0 → ⊥ = λ z. omega (arith, b.plan.at_least) in
-          let here = rw (ne_eqb (c.n % c.plan.size) 0 some) at ahead in
-          towards_step (blocks_of c) [] i b p q joined (rw (e, f) here)
+        pub midway_one : (q : Partial) → Joined b c.last_words p q → Towards (blocks_of c) i [] q × (q.shift ≡ c.n)
+        unfolding copies block_size variables_in
+        midway_one q joined =
+            let here = subst (λ (o : Option BlockCode). Towards (blocks_of c) i (copies 1 o c.last_words) p) e ahead in (
+              towards_step (blocks_of c) [] i b c.last_words p q (c.laid.lasts b e) joined here,
+              joined.shift ∙ rw m.shift (sym (rw e at c.variables)),
+            )
 
     -- What is left of i then says whether there is a centre i.
-    module _ (p : Partial) (done : Towards (blocks_of c) i [] p) where
+    module _ (p : Partial) (done : Towards (blocks_of c) i [] p) (shift : p.shift ≡ c.n) where
+      some : 0 < centre_count (blocks_of c)
+      some = laid_some c.layout c.whole_words c.last_words c.laid
+
       pub centre_found : p.left ≡ 0 →
           (i < centre_count (blocks_of c)) × (bits_of p.assignment ≡ centre_at (blocks_of c) i) × (bits_of p.assignment < 2 ^ c.n)
       centre_found z =
           let (reads, left) = towards_end (blocks_of c) i p done in
-          let bound = (div-lt_iff_lt-mul {k = centre_count (blocks_of c)} {x = i} {y = 1} blocks_some).0 (omega arith) in
-          let low = centre_lt (blocks_of c) (blocks_covered code covering (plan_in c.plan) c.n) i in (
+          let bound = (div-lt_iff_lt-mul {k = centre_count (blocks_of c)} {x = i} {y = 1} some).0 (omega arith) in (
             omega (arith, one-mul (centre_count (blocks_of c))),
             reads,
-            rw reads (rw (blocks_size code (plan_in c.plan) c.n) at low),
+            rw shift at done.below,
           )
 
       pub centre_past : (p.left ≡ 0 → ⊥) → centre_count (blocks_of c) ≤ i
       centre_past z =
           let (_, left) = towards_end (blocks_of c) i p done in
-          let bound = (le-div_iff_mul-le {k = centre_count (blocks_of c)} {x = 1} {y = i} blocks_some).0 (omega arith) in
+          let bound = (le-div_iff_mul-le {k = centre_count (blocks_of c)} {x = 1} {y = i} some).0 (omega arith) in
           omega (arith, one-mul (centre_count (blocks_of c)))
 
-  -- ---- R and M
+-- ---- the codes of a plan
 
-  radius_rest : (b : Block) (k : ℕ) (bs : List Block) → summed_radius (replicate k b ++ bs) ≡ k * b.radius + summed_radius bs
-  unfolding summed_radius
-  radius_rest b zero bs = rw (zero-mul b.radius) (sym (zero-add _))
-  radius_rest b (suc k) bs = omega (arith, radius_rest b k bs, suc-mul k b.radius)
+covered : (t s : ℕ) → Covered (block_of code t s)
+unfolding block_of
+covered t s = record { covers = code_covers t s; within = code_within t s }
 
-  pub radius_none : c.n % c.plan.size ≡ 0 → whole_count * c.plan.radius ≡ summed_radius (blocks_of c)
-  unfolding summed_radius block_of
-  radius_none e = rw (blocks_split, eq-eqb (c.n % c.plan.size) 0 e) (sym (radius_rest whole_block whole_count [] ∙ add-zero _))
+-- what the construction of a code leaves
+module _ (b : BlockCode) (before after : List ℕ) (f : Filled b.size b.radius b.count before after) where
+  pub filled_listed : take b.count after ≡ code b.size b.radius
+  unfolding written
+  filled_listed = rw (f.cells, f.count) (take-append_seam (code b.size b.radius) (drop (length (code b.size b.radius)) before))
 
-  pub radius_one : (b : BlockCode) → b.plan.size ≡ c.n % c.plan.size → b.plan.radius ≡ min c.plan.radius (c.n % c.plan.size) →
-      whole_count * c.plan.radius + b.plan.radius ≡ summed_radius (blocks_of c)
-  unfolding summed_radius block_of short_block
-  radius_one b e f =
-      let some : c.n % c.plan.size ≡ 0 → ⊥ = λ z. omega (arith, b.plan.at_least) in
-      rw (blocks_split, ne_eqb (c.n % c.plan.size) 0 some, f)
-      (sym (radius_rest whole_block whole_count _ ∙ ap (λ (x : ℕ). whole_count * c.plan.radius + x) (add-zero _)))
+  pub filled_coded : 0 < b.size → Coded b after
+  unfolding written block_of
+  filled_coded some =
+      record {
+        size = some;
+        some = rw f.count (words_some (block_of code b.size b.radius) (covered b.size b.radius));
+        held = rw (f.cells, f.count, length-append) (omega arith);
+        below = λ k h.
+            let same = ap (λ (xs : List ℕ). get_or xs k 0) (sym filled_listed) ∙ get_or-take b.count after k 0 h in
+            subst (λ (x : ℕ). x < 2 ^ b.size) same (get_or_within b.size (code b.size b.radius) (code_within b.size b.radius) k);
+      }
 
-  -- R is within the number of variables
-  pub radius_small : whole_count * c.plan.radius ≤ whole_count * c.plan.size
-  radius_small = mul-le-mul_left whole_count c.plan.within
+holds_size : (count t s : ℕ) (o : Option BlockCode) (cells : List ℕ) → Holds count t s o cells → count * block_size o ≡ count * t
+unfolding block_size
+holds_size count t s None cells h = rw (h, zero-mul, zero-mul)
+holds_size count t s (Some b) cells h = rw h.0
 
-  -- how many words the code of a whole block has
-  abbrev pub whole_words : ℕ
-  whole_words = length (code c.plan.size c.plan.radius)
+holds_radius : (count t s : ℕ) (o : Option BlockCode) (cells : List ℕ) → Holds count t s o cells → count * block_radius o ≡ count * s
+unfolding block_radius
+holds_radius count t s None cells h = rw (h, zero-mul, zero-mul)
+holds_radius count t s (Some b) cells h = rw h.1
 
-  counted : (k : ℕ) (bs : List Block) → centre_count (replicate k whole_block ++ bs) ≡ whole_words ^ k * centre_count bs
-  unfolding centre_count block_of
-  counted zero bs = rw pow-zero (sym (one-mul (centre_count bs)))
-  counted (suc k) bs =
-      rw (counted k bs, pow-suc)
-      (sym (mul_assoc whole_words _ _) ∙ ap (λ (x : ℕ). x * centre_count bs) (mul_comm whole_words _))
+holds_copies : (count t s : ℕ) (o : Option BlockCode) (cells : List ℕ) → Holds count t s o cells →
+    copies count o cells ≡ replicate count (block_of code t s)
+unfolding copies block_in block_of
+holds_copies count t s None cells h = rw h
+holds_copies count t s (Some b) cells h = rw (h.0, h.1, h.2)
 
-  pub count_none : c.n % c.plan.size ≡ 0 → centre_count (blocks_of c) ≡ whole_words ^ whole_count
-  unfolding centre_count
-  count_none e = rw (blocks_split, eq-eqb (c.n % c.plan.size) 0 e, counted whole_count []) (mul-one _)
+holds_coded : (count t s : ℕ) (o : Option BlockCode) (cells : List ℕ) → Holds count t s o cells → (b : BlockCode) → o ≡ Some b → Coded b cells
+holds_coded count t s o cells h b e = (rw e at h).3
 
-  pub count_one : (b : BlockCode) → b.plan.size ≡ c.n % c.plan.size → b.plan.radius ≡ min c.plan.radius (c.n % c.plan.size) →
-      centre_count (blocks_of c) ≡ whole_words ^ whole_count * b.count
-  unfolding centre_count block_of short_block
-  count_one b e f =
-      let some : c.n % c.plan.size ≡ 0 → ⊥ = λ z. omega (arith, b.plan.at_least) in
-      rw (blocks_split, ne_eqb (c.n % c.plan.size) 0 some, counted whole_count _, b.counted, e, f)
-      (ap (λ (x : ℕ). whole_words ^ whole_count * x) (mul-one _))
+-- a last block of t variables
+last_size : (t s : ℕ) (o : Option BlockCode) (cells : List ℕ) → Holds t t s o cells → block_size o ≡ t
+unfolding block_size
+last_size t s None cells h = sym h
+last_size t s (Some b) cells h = h.0
 
-  -- The product of the words of j whole blocks, cut at the most: of one more,
-  pub centres_more : (b : BlockCode) → b.plan.size ≡ c.plan.size → b.plan.radius ≡ c.plan.radius → (j made s r : ℕ) →
-      made ≡ min (whole_words ^ j) most_centres → s ≡ min (made * b.count) (2 ^ 64 - 1) → r ≡ min s most_centres →
-      r ≡ min (whole_words ^ (j + 1)) most_centres
-  centres_more b e f j made s r g h k =
-      product_cut (whole_words ^ j) b.count made s r g h k
-      ∙ rw (b.counted, e, f, add-one, pow-suc whole_words j)
+last_radius : (t s : ℕ) (o : Option BlockCode) (cells : List ℕ) → Holds t t s o cells → block_radius o ≤ s
+unfolding block_radius
+last_radius t s None cells h = omega arith
+last_radius t s (Some b) cells h = omega (arith, h.1)
 
-  -- and of all, or where there is none.
-  pub centres_all : (j e made : ℕ) → e ≡ whole_count → j ≤ e → e ≤ j → made ≡ min (whole_words ^ j) most_centres →
-      made ≡ min (whole_words ^ whole_count) most_centres
-  centres_all j e made f low high g = let same : j ≡ whole_count = omega arith in rw same at g
+last_copies : (t s : ℕ) (o : Option BlockCode) (cells : List ℕ) → Holds t t s o cells →
+    copies 1 o cells ≡ cond (eqb t 0) [] (block_of code t s ∷ [])
+unfolding copies block_in block_of
+last_copies t s None cells h = rw (eq-eqb t 0 h)
+last_copies t s (Some b) cells h =
+    let some : t ≡ 0 → ⊥ = λ z. omega (arith, h.0, h.3.size) in
+    rw (ne_eqb t 0 some, h.0, h.1, h.2)
 
-  pub centres_without : c.whole ≡ None → 1 ≡ min (whole_words ^ whole_count) most_centres
-  centres_without e = rw (c.wholes.none e, pow-zero) refl
+-- The layout that a plan gives fits, and stands for the plan's blocks.
+module _ (p : Plan) (n : ℕ) (l : Layout) (whole last : List ℕ) (e : l.blocks ≡ n / p.size)
+    (w : Holds (n / p.size) p.size p.radius l.whole whole) (r : Holds (n % p.size) (n % p.size) (min p.radius (n % p.size)) l.last last) where
+  pub plan_variables : n ≡ variables_in l
+  unfolding variables_in
+  plan_variables =
+      rw e (omega (arith, holds_size _ _ _ l.whole whole w, last_size _ _ l.last last r, div-add-mod' n p.size))
+
+  pub plan_reach : p.radius ≤ p.size → n ≤ width → reach_in l ≤ width
+  unfolding reach_in
+  plan_reach within small =
+      let inside : n / p.size * p.radius ≤ n / p.size * p.size = mul-le-mul_left (n / p.size) within in
+      rw e (omega (arith, holds_radius _ _ _ l.whole whole w, last_radius _ _ l.last last r, div-add-mod' n p.size))
+
+  pub plan_laid : n ≤ width → Laid l whole last
+  plan_laid small =
+      record {
+        fits = rw (← plan_variables) small;
+        wholes = holds_coded _ _ _ l.whole whole w;
+        lasts = holds_coded _ _ _ l.last last r;
+      }
+
+  pub plan_blocks : blocks_in l whole last ≡ blocks code p n
+  unfolding blocks_in blocks short_block
+  plan_blocks =
+      rw e (ap₂ (λ (xs ys : List Block). xs ++ ys) (holds_copies _ _ _ l.whole whole w) (last_copies _ _ l.last last r))

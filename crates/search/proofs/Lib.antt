@@ -5,4 +5,5 @@ pub mod RunLaws
 pub mod LegLaws
 pub mod CallLaws
 pub mod BallsLaws
+pub mod LayoutLaws
 pub mod CodesLaws

@@ -1,5 +1,5 @@
 -- What the search machine is given and what it answers, read as the definitions.
-use Rattle.std.specs.Prelude.{◌≡◌, false, cond, Option, MatchOption, List, [], ◌∷◌, ◌++◌, ℕ, ◌+◌, ◌-◌, ◌*◌, ◌/◌, ◌%◌, ◌^◌, ◌≤◌, ◌<◌, eqb, length, get_or, replicate}
+use Rattle.std.specs.Prelude.{◌≡◌, false, Option, MatchOption, List, ◌++◌, ℕ, ◌+◌, ◌-◌, ◌*◌, ◌/◌, ◌%◌, ◌^◌, ◌≤◌, ◌<◌, length, get_or}
 use Rattle.words.specs.declared.Assignment.{Assignment}
 use Rattle.words.specs.Machine.{bits_of}
 use Rattle.formula.specs.Machine.{held, clause_at}
@@ -11,9 +11,9 @@ use Rattle.planes.specs.Machine.{plane_cells}
 use Rattle.ball.specs.Ball.{is_dead, rule}
 use Rattle.ball.specs.Machine.{centred, Ready, Shows, call_from}
 use Rattle.ball.specs.declared.ball.Ball.{Ball}
-use Rattle.code.specs.Code.{code}
 use Rattle.code.specs.declared.plan.Plan as Code
-use Rattle.search.specs.Run.{Plan, Block, Search, plan, block_of, short_block, blocks, summed_radius, centre_at, ball, centre_count}
+use Rattle.search.specs.Run.{Plan, Block, Search, plan, summed_radius, centre_at, ball, centre_count}
+use Rattle.search.specs.Blocks.{block_size, copies, blocks_in}
 use Rattle.search.specs.declared.balls.Progress.{Progress}
 use Rattle.search.specs.declared.balls.Progress.TheVariants.{Clear, None, Spent}
 use Rattle.search.specs.declared.block_code.BlockCode.{BlockCode}
@@ -26,23 +26,15 @@ use Rattle.search.specs.declared.partial.Partial.{Partial}
 abbrev pub plan_in : Code.Plan → Plan
 plan_in p = plan p.size p.radius
 
--- the block that a code is for
-abbrev pub block_in : BlockCode → Block
-block_in b = block_of code b.plan.size b.plan.radius
-
--- the blocks that codes are for: those of the plan
+-- the blocks that codes are for
 abbrev pub blocks_of : Codes → List Block
-blocks_of c = blocks code (plan_in c.plan) c.n
-
--- the shorter last one, if there is one
-abbrev pub last_of : Codes → List Block
-last_of c = cond (eqb (c.n % c.plan.size) 0) [] (short_block code (c.n % c.plan.size) c.plan.radius ∷ [])
+blocks_of c = blocks_in c.layout c.whole_words c.last_words
 
 -- The partial centre q has one block more than p: a word of the code goes above the bits so far.
-pub record Joined (b : BlockCode) (p q : Partial) : Type 0 where
-  pub reads : bits_of q.assignment ≡ get_or (code b.plan.size b.plan.radius) (p.left % b.count) 0 * 2 ^ p.shift + bits_of p.assignment
+pub record Joined (b : BlockCode) (cells : List ℕ) (p q : Partial) : Type 0 where
+  pub reads : bits_of q.assignment ≡ get_or cells (p.left % b.count) 0 * 2 ^ p.shift + bits_of p.assignment
   pub below : bits_of q.assignment < 2 ^ q.shift
-  pub shift : q.shift ≡ p.shift + b.plan.size
+  pub shift : q.shift ≡ p.shift + b.size
   pub left : q.left ≡ p.left / b.count
 
 -- The partial centre p, with the blocks bs still to come, leads to centre i of all blocks.
@@ -53,10 +45,10 @@ pub record Towards (all : List Block) (i : ℕ) (bs : List Block) (p : Partial) 
 
 -- The same after j of the whole blocks.
 pub record Midway (c : Codes) (i j : ℕ) (p : Partial) : Type 0 where
-  pub within : j ≤ c.n / c.plan.size
-  pub shift : p.shift ≡ j * c.plan.size
+  pub within : j ≤ c.layout.blocks
+  pub shift : p.shift ≡ j * block_size c.layout.whole
   pub towards : Towards (blocks_of c) i
-      (replicate (c.n / c.plan.size - j) (block_of code c.plan.size c.plan.radius) ++ last_of c) p
+      (copies (c.layout.blocks - j) c.layout.whole c.whole_words ++ copies 1 c.layout.last c.last_words) p
 
 -- Centre i of the blocks, an assignment of the n variables, or that there is none.
 abbrev pub CentreFound : Codes → ℕ → Option Assignment → Type 0

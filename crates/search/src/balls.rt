@@ -10,7 +10,7 @@ ghost use Rattle.search.specs.Machine.{blocks_of, search_by, Moves, Reaching, Pr
 use crate::codes::Codes;
 use ball::{Ball, Path, counts, force};
 use formula::Literal;
-use planes::{Kind, Occurrences, PLANES};
+use planes::{Kind, Occurrences, PLANES, TableRow};
 use tree::Found;
 use words::{Assignment, Set};
 
@@ -48,7 +48,7 @@ pub fn flips(occ: &Occurrences, planes: &[u64; PLANES], radius: u32) -> u32
     ensures { (cells : List ℕ) → Ready occ.now.count cells occ.now.table → Shows occ.now.count cells (centred 0) planes.now →
         Reaching occ.now.count cells radius result }
 {
-    match occ.next(None, Kind::Both, planes, 0) {
+    match occ.next(TableRow::NONE, Kind::Both, planes, 0) {
         None => radius,
         Some(_) => 0,
     }
@@ -87,7 +87,7 @@ pub fn balls(
             flipped: Set::zero(),
             forced: Set::zero(),
         };
-        let from = force(ball.occ, None, planes, path);
+        let from = force(ball.occ, TableRow::NONE, planes, path);
         match ball.call(planes, from, reach, calls) {
             Found::Clear(model, made) => return Progress::Clear(model, made),
             Found::Spent(_) => return Progress::Spent { calls, next: i },

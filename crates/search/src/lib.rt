@@ -4,6 +4,7 @@
 mod balls;
 mod block_code;
 mod codes;
+mod layout;
 mod partial;
 
 ghost use Rattle.std.specs.Prelude.{◌≡◌, ℕ, ◌^◌, ◌<◌};
@@ -16,9 +17,11 @@ ghost use Rattle.search.specs.Machine.{plan_in, blocks_of, search_in, search_by,
 
 use ball::{Ball, counts};
 pub use balls::Progress;
+pub use block_code::BlockCode;
 use code::Plan;
-pub use codes::{CENTRES, Codes};
+pub use codes::Codes;
 use formula::Sheet;
+pub use layout::{CENTRES, Layout};
 use planes::Occurrences;
 use tree::Found;
 

@@ -1,8 +1,8 @@
 // A centre in the making.
-ghost use Rattle.std.specs.Prelude.{◌≡◌, ◌+◌, ◌^◌, ◌≤◌, ◌<◌, take};
+ghost use Rattle.std.specs.Prelude.{◌+◌, ◌^◌, ◌≤◌, ◌<◌};
 ghost use Rattle.words.specs.Bits.{width};
 ghost use Rattle.words.specs.Machine.{bits_of};
-ghost use Rattle.code.specs.Code.{code};
+ghost use Rattle.search.specs.Blocks.{Coded};
 ghost use Rattle.search.specs.Machine.{Joined};
 
 use crate::block_code::BlockCode;
@@ -19,10 +19,10 @@ pub struct Partial {
 impl Partial {
     // One block more: quotient and remainder pick a word of its code.
     pub fn with_block(self, block: &BlockCode, words: &[u16; code::CELLS]) -> Partial
-        requires listed { take block.now.count words.now ≡ code block.now.plan.size block.now.plan.radius }
-        requires room { self.shift + block.now.plan.size ≤ width }
+        requires coded { Coded block.now words.now }
+        requires room { self.shift + block.now.size ≤ width }
         requires below { bits_of self.assignment < 2 ^ self.shift }
-        ensures { Joined block.now self result }
+        ensures { Joined block.now words.now self result }
     {
         let at = (self.left % block.count) as usize;
         let word = u32::from(words[at]);
@@ -30,7 +30,7 @@ impl Partial {
         let assignment = self.assignment;
         Partial {
             assignment: assignment.joined(word, shift),
-            shift: shift + block.plan.size,
+            shift: shift + block.size,
             left: self.left / block.count,
         }
     }

@@ -62,7 +62,7 @@ impl Case<'_> {
         self.leg(0, last).reply.number == 0
             && stays(
                 self.leg(LARGEST_BUDGET, checkpoint),
-                decision::declined(Reason::Finished.at(0)),
+                decision::declined(Reason::Finished.number(), 0),
                 checkpoint,
             )
     }

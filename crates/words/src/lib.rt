@@ -72,6 +72,24 @@ pub struct Refused {
     pub place: u32,
 }
 
+// A refusal as a reply tells it: its number, which need not be a reason's, and its place.
+#[derive(Clone, Copy, PartialEq, Eq, Debug)]
+pub struct Refusal {
+    pub number: u32,
+    pub place: u32,
+}
+
+impl From<Refused> for Refusal {
+    ghost from_gives = { λ why refusal. refusal ≡ record { number = number_of why.reason; place = why.place } };
+
+    fn from(why: Refused) -> Refusal {
+        Refusal {
+            number: why.reason.number(),
+            place: why.place,
+        }
+    }
+}
+
 impl Assignment {
     // No variable is set.
     pub fn zero() -> Assignment

@@ -5,7 +5,9 @@ use Rattle.alike.proofs.alike.Goals as goal
 
 pub returns-then-f-g : goal.returns-then-f-g
 unfolding alike
-returns-then-f-g c = rw (eq-eqb c.args.f.now.n c.args.g.now.n c.if-f-g.true) c.same_clauses.ensures
+returns-then-f-g c =
+    let same = rw (c.clauses.ensures.0, c.clauses.ensures.1, c.clauses-then-f-g.ensures.0, c.clauses-then-f-g.ensures.1) at c.same_clauses.ensures in
+    rw (eq-eqb c.args.f.now.n c.args.g.now.n c.if-f-g.true) same
 
 pub returns-else-f-g : goal.returns-else-f-g
 unfolding alike

@@ -5,4 +5,4 @@ use Rattle.decision.proofs.declined.Goals as goal
 
 pub returns : goal.returns
 unfolding word_at ending_number
-returns c = rw (c.number.ensures, c.number-2.ensures)
+returns c = rw c.number.ensures

@@ -18,9 +18,7 @@ use Rattle.deletion.proofs.core_sheet.Goals.{After-decide_laid-all}
 -- what the whole sheet comes to, by the plan that is asked for
 module _ (c : After-decide_laid-all) where
   whole : let a = c.args in decision_in c.decide_laid-all.result ≡ judged (plan_in a.plan) a.budget (formula_of a.sheet.now)
-  whole =
-      c.decide_laid-all.ensures
-      ∙ ap (λ (p : Plan). judged p c.args.budget (formula_of c.args.sheet.now)) (ap plan_in (c.lay_out.ensures.named ∙ c.empty-codes.ensures.1))
+  whole = c.decide_laid-all.ensures c.args.plan.size c.args.plan.radius (rw c.empty-codes.ensures.named.1 at c.lay_out.ensures.planned)
 
 pub core_of-requires : goal.core_of-requires
 unfolding decision_in
@@ -28,6 +26,7 @@ core_of-requires c =
     let t = (goal.at.core_of-requires c).After-decide_laid-all in
     record {
       coded = c.lay_out.ensures.coded;
+      planned = rw c.lay_out.ensures.named c.lay_out.ensures.planned;
       method_value = (method_whole (plan_in c.args.plan) c.args.budget _ c.args.list.now _ (whole t), c.requires);
     }
 
@@ -47,4 +46,4 @@ returns c =
     none_leaves _ _ _ _ _ (whole t) _ (ap verdict_in c.in-None.is) _ _
     (subst (λ (k : ℕ). Leaves (sift (plan_in a.plan) a.budget f k []) a.list.now (decision_in c.core_of.result) c.core_of.new.list) (sym count)
     (subst (λ (p : Plan). Leaves (sift p a.budget f a.sheet.now.count []) a.list.now (decision_in c.core_of.result) c.core_of.new.list)
-    (ap plan_in (c.lay_out.ensures.named ∙ c.empty-codes.ensures.1)) c.core_of.ensures))
+    (ap plan_in (c.lay_out.ensures.named ∙ c.empty-codes.ensures.named.1)) c.core_of.ensures))

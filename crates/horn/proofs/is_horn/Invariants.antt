@@ -6,4 +6,4 @@ use Rattle.horn.specs.Horn.{is_horn}
 use Rattle.horn.proofs.is_horn.Given as goal
 
 abbrev pub invariant-loop-i : goal.invariant-loop-i
-invariant-loop-i l = is_horn (drop l.i (held l.sheet.count l.sheet.cells)) ≡ is_horn (held l.sheet.count l.sheet.cells)
+invariant-loop-i l = is_horn (drop l.i (held l.clauses.count l.clauses.cells.now)) ≡ is_horn (held l.clauses.count l.clauses.cells.now)

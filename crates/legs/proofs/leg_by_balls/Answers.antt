@@ -19,10 +19,10 @@ module _ (c : After-centres-centres) where
   f = formula_of c.args.sheet.now
 
   counted : c.centres-centres.result ≡ min (centres (plan_in c.args.plan) f) (2 ^ 63)
-  counted = rw (c.lay_out.ensures.0, c.lay_out.ensures.1, c.empty-codes.ensures.1) at c.centres-centres.ensures
+  counted = rw (c.lay_out.ensures.laid, c.empty-codes.ensures.named.1) at c.centres-centres.ensures
 
   every : centre_count (blocks_of c.lay_out.new.self) ≡ centres (plan_in c.args.plan) f
-  every = rw (c.lay_out.ensures.0, c.lay_out.ensures.1, c.empty-codes.ensures.1)
+  every = rw (c.lay_out.ensures.laid, c.empty-codes.ensures.named.1)
 
 pub returns-in_err-check_leg : goal.returns-in_err-check_leg
 returns-in_err-check_leg c =
@@ -35,7 +35,7 @@ leg-progress-requires c =
     let t = (goal.at.leg-progress-requires c).After-centres-centres in
     let said = c.in_ok-check_leg.ensures ∙ checks_cut _ _ _ _ _ (f t) _ _ (counted t) in
     let fine = checks_fine _ _ _ _ _ _ _ (sym said) in
-    record { same_n = sym c.lay_out.ensures.0; start = omega (arith, fine.few, fine.left) }
+    record { same_n = sym c.lay_out.ensures.named.0; start = omega (arith, fine.few, fine.left) }
 
 pub returns : goal.returns
 unfolding search_in search_of
@@ -45,5 +45,5 @@ returns c =
     let said = c.in_ok-check_leg.ensures ∙ checks_cut _ _ _ _ _ (f t) _ _ (counted t) in
     let fine = checks_fine _ _ _ _ _ _ _ (sym said) in
     let all : c.centres-centres.result ≡ centre_count (blocks_of c.lay_out.new.self) = omega (arith, counted t, every t, fine.few) in
-    let made = c.leg-progress.ensures ∙ rw (c.lay_out.ensures.0, c.lay_out.ensures.1, c.empty-codes.ensures.1) in
+    let made = c.leg-progress.ensures ∙ rw (c.lay_out.ensures.laid, c.empty-codes.ensures.named.1) in
     c.advance.ensures ∙ leg_moved_on a.before _ _ _ (f t) (sym said) _ (ap (λ (x : ℕ). progress_in x c.leg-progress.result) all ∙ made)

@@ -34,6 +34,7 @@ unfolding sheet_number
 returns c =
     let a = c.args in
     let (size, radius, good) = c.in_ok-plan.ensures in
+    let lacking = rw (c.clauses.ensures.0, c.clauses.ensures.1, c.clauses-2.ensures.0, c.clauses-2.ensures.1) at c.first_lacking.ensures in
     c.leg_sheet.ensures
     ∙ leg_taken (grown (plan a.size a.radius) a.budget a.bytes.now a.longer.now) a.checkpoint good (formula_of c.read.new.sheet) c.in_ok-read.ensures
-    (formula_of c.read-2.new.sheet) c.in_ok-read-2.ensures _ refl _ c.first_lacking.ensures _ size _ radius
+    (formula_of c.read-2.new.sheet) c.in_ok-read-2.ensures _ refl _ lacking _ size _ radius

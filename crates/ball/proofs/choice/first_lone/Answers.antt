@@ -48,7 +48,7 @@ returns-then-meets c cells ready shows stand first h =
 pub loop-next-preserved : goal.loop-next-preserved
 loop-next-preserved c cells s ready shows stand first h =
     let (inside, failing, before) = rw c.in-Some.is at (c.loop-next.invariant cells s ready shows stand first h) in
-    let unspared = spared c.before.before cells s ready stand inside failing ∙ c.if-meets.false in
+    let unspared = spared c.before.before.before cells s ready stand inside failing ∙ c.if-meets.false in
     lone_next _ cells s _ _ before unspared _ (c.next-next.ensures.by_index cells _ _ ready.occurs shows.met shows.«open»)
 
 pub returns : goal.returns

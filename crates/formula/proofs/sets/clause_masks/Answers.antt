@@ -8,9 +8,9 @@ loop-i-init c = masks_none _ _ (search rules)
 
 pub loop-i-preserved : goal.loop-i-preserved
 loop-i-preserved c =
-    masks_next c.loop-i.i _ _ (omega (arith, c.args.sheet.now.holds.room)) c.loop-i.invariant _ (c.mask.ensures ∙ ap mask_of c.clause.ensures.literals)
+    masks_next c.loop-i.i _ _ (omega (arith, c.args.clauses.fit.room)) c.loop-i.invariant _ (c.mask.ensures ∙ ap mask_of c.clause.ensures.literals)
 
 pub returns : goal.returns
 returns c =
-    let all : c.loop-i.i ≡ c.args.sheet.now.count = omega arith in
-    subst (λ (x : ℕ). Masks x c.args.sheet.now.cells c.loop-i.masks) all c.loop-i.invariant
+    let all : c.loop-i.i ≡ c.args.clauses.count = omega arith in
+    subst (λ (x : ℕ). Masks x c.args.clauses.cells.now c.loop-i.masks) all c.loop-i.invariant

@@ -11,14 +11,14 @@ use Rattle.formula.proofs.sets.clause_stands.Goals.{else-own-masks-via-then-own-
 
 pub returns-then-same_set : goal.returns-then-same_set
 returns-then-same_set c =
-    some_found _ _ c.loop-k.k c.loop-k.invariant (held_cons c.args.sheet.now.count _ c.loop-k.k c.loop-k-test.true)
+    some_found _ _ c.loop-k.k c.loop-k.invariant (held_cons c.args.clauses.count _ c.loop-k.k c.loop-k-test.true)
     (ap (same_set _) (sym c.clause.ensures.literals) ∙ sym c.same_set.ensures ∙ c.if-same_set.true)
 
 pub loop-k-preserved : goal.loop-k-preserved
 loop-k-preserved c =
-    some_next _ _ c.loop-k.k c.loop-k.invariant (held_cons c.args.sheet.now.count _ c.loop-k.k c.loop-k-test.true) other
+    some_next _ _ c.loop-k.k c.loop-k.invariant (held_cons c.args.clauses.count _ c.loop-k.k c.loop-k-test.true) other
   where
-    other : same_set (map literal_of c.args.clause.now) (clause_at c.args.sheet.now.cells c.loop-k.k) ≡ false
+    other : same_set (map literal_of c.args.clause.now) (clause_at c.args.clauses.cells.now c.loop-k.k) ≡ false
     other =
         elim c.else-own-masks.branch [
           | else-own-masks-via-then-own-masks+else-same_set w ↦
@@ -28,4 +28,4 @@ loop-k-preserved c =
         ]
 
 pub returns : goal.returns
-returns c = some_none _ _ c.loop-k.k c.loop-k.invariant (held_end c.args.sheet.now.count _ c.loop-k.k c.loop-k-test.false)
+returns c = some_none _ _ c.loop-k.k c.loop-k.invariant (held_end c.args.clauses.count _ c.loop-k.k c.loop-k-test.false)

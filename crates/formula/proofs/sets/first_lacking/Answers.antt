@@ -10,16 +10,16 @@ loop-i-init c = (refl, omega arith)
 
 pub returns-then-not-stands_still : goal.returns-then-not-stands_still
 returns-then-not-stands_still c =
-    lacking_found _ _ _ c.loop-i.i c.loop-i.invariant.0 (held_cons c.args.a.now.count _ c.loop-i.i c.loop-i-test.true)
+    lacking_found _ _ _ c.loop-i.i c.loop-i.invariant.0 (held_cons c.args.a.count _ c.loop-i.i c.loop-i-test.true)
     (rw (← c.clause-clause.ensures.literals) (sym c.stands_still.ensures ∙ c.if-not-stands_still.true))
 
 pub loop-i-preserved : goal.loop-i-preserved
 loop-i-preserved c = (
-  lacking_next _ _ _ c.loop-i.i c.loop-i.invariant.0 (held_cons c.args.a.now.count _ c.loop-i.i c.loop-i-test.true)
+  lacking_next _ _ _ c.loop-i.i c.loop-i.invariant.0 (held_cons c.args.a.count _ c.loop-i.i c.loop-i-test.true)
       (rw (← c.clause-clause.ensures.literals) (sym c.stands_still.ensures ∙ c.if-not-stands_still.false)) _
       (ap length (sym c.clause-clause.ensures.literals) ∙ length-map c.clause-clause.result.now literal_of),
   omega (arith, c.clause-clause.ensures.size.1, c.loop-i.invariant.1),
 )
 
 pub returns : goal.returns
-returns c = lacking_none _ _ _ c.loop-i.i c.loop-i.invariant.0 (held_end c.args.a.now.count _ c.loop-i.i c.loop-i-test.false)
+returns c = lacking_none _ _ _ c.loop-i.i c.loop-i.invariant.0 (held_end c.args.a.count _ c.loop-i.i c.loop-i-test.false)

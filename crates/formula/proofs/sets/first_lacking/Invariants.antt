@@ -7,6 +7,6 @@ use Rattle.formula.proofs.sets.first_lacking.Given as goal
 
 abbrev pub invariant-loop-i : goal.invariant-loop-i
 invariant-loop-i l =
-    let cs = held l.a.count l.a.cells in
-    let ds = held l.b.count l.b.cells in
+    let cs = held l.a.count l.a.cells.now in
+    let ds = held l.b.count l.b.cells.now in
     (first_lacking l.place (drop l.i cs) ds ≡ first_lacking header_words cs ds) × (l.place ≤ header_words + row_cells * l.i)

@@ -1,4 +1,4 @@
--- `sets::same_clauses` meets its contract: the clauses of each sheet stand in the other.
+-- `sets::same_clauses` meets its contract: the clauses of each table stand in the other.
 use mathlib.Core.Path.{sym, ◌∙◌}
 use Rattle.formula.specs.Sets.{same_clauses}
 use Rattle.formula.proofs.sets.same_clauses.Goals as goal

@@ -16,7 +16,7 @@ pub recentre-requires : goal.recentre-requires
 recentre-requires c =
     let b = c.loop-centre.invariant in
     record {
-      k_le_lane_count = (c.args.codes.now.small, b.size);
+      k_le_lane_count = (omega (arith, c.args.codes.now.variables, c.args.codes.now.laid.fits), b.size);
       from_bound = (b.below, c.in-Some.ensures.2);
     }
 

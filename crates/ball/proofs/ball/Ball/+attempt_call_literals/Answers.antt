@@ -157,7 +157,7 @@ attempt-call-requires t c =
     let a = c.requires in
     let flipped = c.force-after.ensures.result_value ∙ c.flip-2.ensures.result_value in
     let shown = c.flip.ensures.shows _ _ a.ready a.tryable a.shows in
-    let forced = rw c.opposite.ensures at
+    let forced = rw (c.of.ensures, c.opposite-opposite.ensures) at
     (c.force-after.ensures.by_index _ a.ready (rw c.flip-2.ensures.result_value shown)) in
     let told = forces_same c.flip-2.ensures.result_value (ap set_of c.flip-2.ensures.forced_value) forced in
     let stands = standing_flip _ _ a.ready.table _ a.known _ a.tryable _ _ a.standing a.kept told in

@@ -4,23 +4,23 @@ use borrow.Author.Rules.{rules}
 use native.Mathlib.Omega.{arith}
 use borrow.Author.Count.{below_more}
 use Rattle.planes.specs.Machine.{lanes}
-use Rattle.planes.proofs.CountsLaws.{word_row, above_after, zero_after}
+use Rattle.planes.proofs.CountsLaws.{above_after, zero_after}
 use Rattle.planes.proofs.occurrences.Occurrences.above_zero_after.Goals as goal
 
 pub returns-then-zeros-ne0 : goal.returns-then-zeros-ne0
 returns-then-zeros-ne0 c =
     let a = c.args in
-    let told = rw (c.slot_at.ensures, c.row_of-more.ensures.0, c.row_of-less.ensures.0) at c.zeros_after-zeros.ensures in
+    let told = rw (c.slot_at.ensures, c.first_cell-more.ensures.0, c.first_cell-less.ensures.0) at c.zeros_after-zeros.ensures in
     let z = c.zeros_after-zeros.result in
     let fits : z < 2 ^ lanes = search rules in
     record {
       answer = λ cells count next o s steps.
-          sym (zero_after a.self.now.within (word_row a.rows.up, word_row a.rows.down) o s steps c.loop-w.w z (omega arith) told c.if-zeros-ne0.true fits);
+          sym (zero_after a.self.now.within (a.rows.up.within, a.rows.down.within) o s steps c.loop-w.w z (omega arith) told c.if-zeros-ne0.true fits);
     }
 
 pub loop-w-preserved : goal.loop-w-preserved
 loop-w-preserved c =
-    let told = rw (c.slot_at.ensures, c.row_of-more.ensures.0, c.row_of-less.ensures.0) at c.zeros_after-zeros.ensures in
+    let told = rw (c.slot_at.ensures, c.first_cell-more.ensures.0, c.first_cell-less.ensures.0) at c.zeros_after-zeros.ensures in
     below_more _ c.loop-w.w c.loop-w.invariant (rw c.if-zeros-ne0.false at told)
 
 pub returns : goal.returns
@@ -28,5 +28,5 @@ returns c =
     let a = c.args in
     record {
       answer = λ cells count next o s steps.
-          sym (above_after a.self.now.within (word_row a.rows.up, word_row a.rows.down) o s steps (λ w l. c.loop-w.invariant w (omega arith)));
+          sym (above_after a.self.now.within (a.rows.up.within, a.rows.down.within) o s steps (λ w l. c.loop-w.invariant w (omega arith)));
     }

@@ -12,9 +12,9 @@ use Rattle.words.proofs.ListLaws.{and_right}
 use Rattle.words.specs.Bits.{bit}
 use Rattle.words.proofs.BitLaws.{trailing_at}
 use Rattle.formula.specs.Formula.{Clause}
-use Rattle.planes.specs.Machine.{lanes, word_of, first_counter, second_counter, Counts, Passing, wanted, Occurs}
+use Rattle.planes.specs.Machine.{lanes, first_counter, second_counter, Counts, Passing, wanted, Occurs}
 use Rattle.planes.proofs.LaneLaws.{same_order, bit-bit_and, bit_from}
-use Rattle.planes.proofs.CountsLaws.{passing_none, passing_lowest, passing_told, passing_also, kind_past, bit_held, word_row, first_end, first_from}
+use Rattle.planes.proofs.CountsLaws.{passing_none, passing_lowest, passing_told, passing_also, kind_past, bit_held, first_end, first_from}
 use Rattle.planes.proofs.occurrences.Occurrences.next.Goals as goal
 use Rattle.planes.proofs.occurrences.Occurrences.next.Goals.{After-holding}
 
@@ -38,7 +38,7 @@ module _ (c : After-holding) where
       (s : Counts c.args.self.now.count cells first_counter count c.args.planes.now)
       (s' : Counts c.args.self.now.count cells second_counter count' c.args.planes.now) where
     found : let a = c.args in
-        Passing a.self.now.count (λ i. wanted a.kind (word_of a.literal) cells count count' i && leb a.from i) c.loop-w.w z
+        Passing a.self.now.count (λ i. wanted a.kind a.row.word cells count count' i && leb a.from i) c.loop-w.w z
     found =
         passing_also
         (passing_also
@@ -46,7 +46,7 @@ module _ (c : After-holding) where
         c.holding.result
         (λ i h e.
         c.holding.ensures (i % lanes) (omega arith)
-        ∙ ap (λ (b : Bool). eqb (word_of c.args.literal) 0 || b) (bit_held o (word_of c.args.literal) i (word_row c.args.literal) h c.args.self.now.within e)))
+        ∙ ap (λ (b : Bool). eqb c.args.row.word 0 || b) (bit_held o c.args.row.word i c.args.row.within h c.args.self.now.within e)))
         c.loop-w.seen
         (λ i h e.
         let back : lanes * c.loop-w.w + i % lanes ≡ i = omega arith in

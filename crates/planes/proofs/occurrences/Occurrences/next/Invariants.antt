@@ -6,12 +6,12 @@ use Prim.Native.Nat.{ℕ, ◌+◌, ◌*◌, ◌<◌}
 use lib.Dec.{leb}
 use Rattle.words.specs.Bits.{bit}
 use Rattle.formula.specs.Formula.{Clause}
-use Rattle.planes.specs.Machine.{lanes, word_of, first_counter, second_counter, Counts, First, wanted, Occurs}
+use Rattle.planes.specs.Machine.{lanes, first_counter, second_counter, Counts, First, wanted, Occurs}
 use Rattle.planes.proofs.occurrences.Occurrences.next.Given as goal
 
 abbrev pub invariant-loop-w : goal.invariant-loop-w
 invariant-loop-w l =
     (l.from < lanes * (l.w + 1)) × ((j : ℕ) → j < lanes → bit l.seen j ≡ leb l.from (lanes * l.w + j))
     × ((cells : List ℕ) (count count' : Clause → ℕ) → Occurs l.self.count cells l.self.table → Counts l.self.count cells first_counter count l.planes →
-    Counts l.self.count cells second_counter count' l.planes → let test = wanted l.kind (word_of l.literal) cells count count' in
+    Counts l.self.count cells second_counter count' l.planes → let test = wanted l.kind l.row.word cells count count' in
     (r : ℕ) → First (lanes * l.w) l.self.count (λ i. test i && leb l.from i) r → First l.from l.self.count test r)
