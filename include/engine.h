@@ -9,7 +9,8 @@
      arrays of clause_counts, may share a buffer; the parts of a tally and its sheet may not.
    - There is enough stack: run takes about 433 KB at its deepest (300 KB with 32 variables, 107 KB on a Horn sheet), clash 472 KB (342 KB with 32
      variables, 150 KB on a Horn sheet), leg 377 KB (248 KB, 107 KB), leg_longer 414 KB (285 KB, 144 KB), split 217 KB, alike 99 KB, clause_counts
-     and the operations on a tally 38 KB, covering_code 21 KB (docs/BENCH.md).
+     and the operations on a tally 38 KB, covering_code 21 KB; and some 3 KB more at a first call, while the dynamic linker binds memcpy
+     (docs/BENCH.md).
 
    In every reply `number` and `place` are the refusal's number and place (README.md has the table); both are 0 where nothing
    is refused, and a refusal is told by number not 0. What does not belong to an answer is 0. */
