@@ -1,11 +1,12 @@
 // A sheet decided by a plan within a budget, or by splitting, and the numbers of a decision.
 #![tactic(auto)]
 
-ghost use Rattle.std.specs.Prelude.{◌≡◌, true, ℕ};
+ghost use Rattle.std.specs.Prelude.{◌≡◌, true, false, ℕ};
 ghost use Rattle.words.specs.Machine.{bits_of};
 ghost use Rattle.formula.specs.Reading.{formula_of};
 ghost use Rattle.tree.specs.Machine.{answer_in};
 ghost use Rattle.search.specs.Run.{plan};
+ghost use Rattle.search.specs.Blocks.{HoldsPlan};
 ghost use Rattle.search.specs.Machine.{plan_in};
 ghost use Rattle.horn.specs.Horn.{is_horn};
 ghost use Rattle.decision.specs.Answers.{answered, refusal, judged, decision, split_decision, ending_number, method_number, counts, declines, reply_of};
@@ -126,6 +127,8 @@ pub fn lay_out(sheet: &Sheet, codes: &mut Codes)
     ensures named { codes.new.plan ≡ codes.old.plan }
     ensures coded { Coded (formula_of sheet.now) codes.new }
     ensures planned { Planned (plan_in codes.old.plan) (formula_of sheet.now) codes.new }
+    ensures held { is_horn (formula_of sheet.now).clauses ≡ false →
+        HoldsPlan (plan_in codes.old.plan) sheet.now.n codes.new.layout codes.new.whole_words codes.new.last_words }
     ensures kept { is_horn (formula_of sheet.now).clauses ≡ true → codes.new ≡ codes.old }
 {
     if !horn::is_horn(sheet.clauses()) {

@@ -1,6 +1,6 @@
 -- The laws of counts in planes: the clauses of a word that pass a test, and the first of them; and two rows that move
 -- the numbers of all clauses.
-use Rattle.std.specs.Prelude.{◌≡◌, refl, Bool, true, false, not, ◌&&◌, List, ℕ, ◌+◌, ◌*◌, ◌/◌, ◌%◌, ◌^◌, ◌≤◌, ◌<◌, eqb, leb, ltb, get_or}
+use Rattle.std.specs.Prelude.{◌≡◌, refl, Bool, true, false, Option, None, Some, not, ◌&&◌, List, ℕ, ◌+◌, ◌*◌, ◌/◌, ◌%◌, ◌^◌, ◌≤◌, ◌<◌, eqb, leb, ltb, get_or}
 use Rattle.std.proofs.Common.{sym, ap, ap₂, ◌∙◌, true≢false, arith, lt-ltb, le-ltb, le-leb, ltb-true, ltb-false}
 use Rattle.std.proofs.Math.Bool.{and-true}
 use Rattle.std.specs.Int.Bits.{bit_and}
@@ -10,6 +10,7 @@ use Rattle.words.specs.Lists.{every}
 use Rattle.words.proofs.ListLaws.{and_left}
 use Rattle.words.specs.Bits.{bit, width}
 use Rattle.words.proofs.BitLaws.{digit, bit_zero, trailing_below, trailing_at}
+use Rattle.formula.specs.declared.literal.Literal.{Literal}
 use Rattle.formula.specs.Formula.{Clause}
 use Rattle.formula.specs.Counts.{holds, opposite, Steps}
 use Rattle.formula.proofs.CountLaws.{opposite_lt}
@@ -18,7 +19,7 @@ use Rattle.formula.proofs.HeldLaws.{held_every, held_fails}
 use Rattle.planes.specs.declared.Planes.{Planes}
 use Rattle.planes.specs.declared.Kind.{Kind}
 use Rattle.planes.specs.declared.Kind.TheVariants.{Zero, Few, Lone, Both}
-use Rattle.planes.specs.Machine.{lanes, row_words, lane_count, row_count, words_of, count_at, planes_at, Counts, Passing, First, passes, test_of, Told, lane, Occurs, Moved, ZerosAfter, Shifted}
+use Rattle.planes.specs.Machine.{lanes, row_words, lane_count, row_count, word_of, words_of, count_at, planes_at, Counts, Passing, First, passes, test_of, Told, lane, Occurs, Moved, ZerosAfter, Shifted}
 use Rattle.planes.proofs.LaneLaws.{bit-bit_and}
 
 -- ---- what is counted
@@ -33,6 +34,10 @@ counts_same e h = record { each = λ i l. h.each i l ∙ e _; rest = h.rest }
 -- the rows of a literal and of its opposite
 pub literal_rows : (literal : ℕ) → IsLiteral literal → (literal < row_count) × (opposite literal < row_count)
 literal_rows literal h = (h.1, opposite_lt width literal h.1)
+
+pub word_row : (literal : Option Literal) → word_of literal < row_count
+word_row None = omega arith
+word_row (Some l) = l.known.1
 
 -- of a clause, and past the last one
 module _ {k : ℕ} {cells occ : List ℕ} (o : Occurs k cells occ) (w i : ℕ) (l : w < row_count) where

@@ -1,9 +1,10 @@
 -- A centre is put together block by block, and the codes that are made for a plan are its own.
-use Rattle.std.specs.Prelude.{◌≡◌, cond, eqb, Option, None, Some, List, [], ◌∷◌, ◌++◌, ℕ, suc, ◌+◌, ◌-◌, ◌*◌, ◌/◌, ◌%◌, ◌^◌, ◌≤◌, ◌<◌, min, length, get_or, take, drop, replicate}
+use Rattle.std.specs.Option.{is_some}
+use Rattle.std.specs.Prelude.{◌≡◌, refl, Bool, true, false, cond, eqb, Option, None, Some, List, [], ◌∷◌, ◌++◌, ℕ, zero, suc, ◌+◌, ◌-◌, ◌*◌, ◌/◌, ◌%◌, ◌^◌, ◌≤◌, ◌<◌, min, length, get_or, take, drop, replicate}
 use Rattle.std.proofs.Math.Path.{sym}
-use Rattle.std.proofs.Common.{ap, ap₂, ◌∙◌, subst, div-add-mod', add-mul, mul_assoc, add_assoc, mod-lt, mul_comm, add_comm, suc-mul, mul-le-mul_right, zero-mul, zero-add, div-one, add-zero, one-mul, mul-zero, add-one, arith, length-append, get_or-take, length-take-le, div-lt_iff_lt-mul, le-div_iff_mul-le, pow-add}
-use Rattle.std.proofs.Math.Nat.{div-div-eq-div-mul, sub-zero, mul-one, mul-le-mul_left}
-use borrow.Author.Tests.{eq-eqb, ne_eqb}
+use Rattle.std.proofs.Common.{ap, ap₂, ◌∙◌, subst, true≢false, div-add-mod', add-mul, mul_assoc, add_assoc, mod-lt, mul_comm, add_comm, suc-mul, mul-le-mul_right, zero-mul, zero-add, div-one, add-zero, one-mul, mul-zero, add-one, arith, length-append, get_or-take, length-take-le, div-lt_iff_lt-mul, le-div_iff_mul-le, pow-add}
+use Rattle.std.proofs.Math.Nat.{div-div-eq-div-mul, sub-zero, mul-one, mul-le-mul_left, pow-zero}
+use borrow.Author.Tests.{eq-eqb, ne_eqb, eqb-true}
 use Rattle.std.proofs.Math.Seq.{take-append_seam}
 use Rattle.words.specs.Bits.{width}
 use Rattle.words.specs.Machine.{bits_of}
@@ -11,14 +12,14 @@ use Rattle.search.specs.declared.block_code.BlockCode.{BlockCode}
 use Rattle.search.specs.declared.codes.Codes.{Codes}
 use Rattle.search.specs.declared.partial.Partial.{Partial}
 use Rattle.search.specs.declared.layout.Layout.{Layout}
-use Rattle.search.specs.Run.{Plan, Block, centre_at, centre_count, block_of, short_block, blocks}
-use Rattle.search.specs.Blocks.{block_size, block_radius, variables_in, reach_in, block_in, copies, blocks_in, Coded, Laid, Holds}
+use Rattle.search.specs.Run.{Plan, Block, centre_at, centre_count, block_of, short_block, blocks, summed_radius}
+use Rattle.search.specs.Blocks.{block_size, block_radius, variables_in, reach_in, block_in, copies, blocks_in, Coded, Laid, Holds, HoldsPlan}
 use Rattle.code.specs.Code.{code}
 use Rattle.code.proofs.CodeLaws.{code_covers, code_within}
 use Rattle.code.specs.Operations.{written}
 use Rattle.code.specs.Machine.{Filled}
 use Rattle.search.proofs.CentreLaws.{Covered, words_some, get_or_within}
-use Rattle.search.proofs.LayoutLaws.{no_copies, laid_some}
+use Rattle.search.proofs.LayoutLaws.{no_copies, blocks_radius, blocks_count, laid_some}
 use Rattle.search.specs.Machine.{blocks_of, Joined, Towards, Midway}
 
 -- ---- a centre
@@ -71,6 +72,35 @@ towards_end all i p so =
     let m : ℕ = bits_of p.assignment in
     let whole : 0 * 2 ^ p.shift + m ≡ m = ap (λ (x : ℕ). x + m) (zero-mul (2 ^ p.shift)) ∙ zero-add m in
     (sym whole ∙ so.total, sym (div-one p.left) ∙ so.left)
+
+-- A centre of k blocks before others is below 2 ^ the number of all their variables.
+copies_lt : (k : ℕ) (o : Option BlockCode) (cells : List ℕ) → ((b : BlockCode) → o ≡ Some b → Coded b cells) → (bs : List Block) (m : ℕ) →
+    ((i : ℕ) → centre_at bs i < 2 ^ m) → (i : ℕ) → centre_at (copies k o cells ++ bs) i < 2 ^ (k * block_size o + m)
+unfolding copies block_in block_size centre_at
+copies_lt k None cells coded bs m low i = rw (mul-zero k, zero-add m) (low i)
+copies_lt k (Some b) cells coded bs m low i = go k i
+  where
+    word : (j : ℕ) → get_or (take b.count cells) (j % length (take b.count cells)) 0 < 2 ^ b.size
+    word j =
+        let own = coded b refl in
+        let inside : j % b.count < b.count = mod-lt j own.some in
+        rw (length-take-le b.count cells own.held, get_or-take b.count cells (j % b.count) 0 inside) (own.below (j % b.count) inside)
+
+    go : (k i : ℕ) → centre_at (replicate k (block_in b cells) ++ bs) i < 2 ^ (k * b.size + m)
+    go zero i = rw (zero-mul b.size, zero-add m) (low i)
+    go (suc k) i =
+        let all : suc k * b.size + m ≡ b.size + (k * b.size + m) = omega (arith, suc-mul k b.size) in
+        rw all (join_lt (k * b.size + m) b.size _ _ (go k _) (word i))
+
+pub laid_lt : (l : Layout) (whole last : List ℕ) → Laid l whole last → (i : ℕ) → centre_at (blocks_in l whole last) i < 2 ^ variables_in l
+unfolding blocks_in variables_in copies centre_at block_size
+laid_lt l whole last laid i = copies_lt l.blocks l.whole whole laid.wholes (copies 1 l.last last) (block_size l.last) (one l.last laid.lasts) i
+  where
+    one : (o : Option BlockCode) → ((b : BlockCode) → o ≡ Some b → Coded b last) → (i : ℕ) → centre_at (copies 1 o last) i < 2 ^ block_size o
+    one None coded i = rw pow-zero (omega arith)
+    one (Some b) coded i =
+        let size : 1 * b.size + 0 ≡ b.size = omega arith in
+        rw size at (copies_lt 1 (Some b) last coded [] 0 (λ j. rw pow-zero (omega arith)) i)
 
 -- ---- a centre of all blocks
 
@@ -156,7 +186,7 @@ module _ (c : Codes) where
             )
 
     -- What is left of i then says whether there is a centre i.
-    module _ (p : Partial) (done : Towards (blocks_of c) i [] p) (shift : p.shift ≡ c.n) where
+    module _ (p : Partial) (done : Towards (blocks_of c) i [] p) where
       some : 0 < centre_count (blocks_of c)
       some = laid_some c.layout c.whole_words c.last_words c.laid
 
@@ -167,7 +197,7 @@ module _ (c : Codes) where
           let bound = (div-lt_iff_lt-mul {k = centre_count (blocks_of c)} {x = i} {y = 1} some).0 (omega arith) in (
             omega (arith, one-mul (centre_count (blocks_of c))),
             reads,
-            rw shift at done.below,
+            rw (reads, c.variables) (laid_lt c.layout c.whole_words c.last_words c.laid i),
           )
 
       pub centre_past : (p.left ≡ 0 → ⊥) → centre_count (blocks_of c) ≤ i
@@ -183,10 +213,15 @@ unfolding block_of
 covered t s = record { covers = code_covers t s; within = code_within t s }
 
 -- what the construction of a code leaves
+pub filled_words : (t s r : ℕ) (before after : List ℕ) → Filled t s r before after →
+    (r ≡ length (code t s)) × (take r after ≡ code t s)
+unfolding written
+filled_words t s r before after f =
+    (f.count, rw (f.cells, f.count) (take-append_seam (code t s) (drop (length (code t s)) before)))
+
 module _ (b : BlockCode) (before after : List ℕ) (f : Filled b.size b.radius b.count before after) where
   pub filled_listed : take b.count after ≡ code b.size b.radius
-  unfolding written
-  filled_listed = rw (f.cells, f.count) (take-append_seam (code b.size b.radius) (drop (length (code b.size b.radius)) before))
+  filled_listed = (filled_words b.size b.radius b.count before after f).1
 
   pub filled_coded : 0 < b.size → Coded b after
   unfolding written block_of
@@ -200,43 +235,47 @@ module _ (b : BlockCode) (before after : List ℕ) (f : Filled b.size b.radius b
             subst (λ (x : ℕ). x < 2 ^ b.size) same (get_or_within b.size (code b.size b.radius) (code_within b.size b.radius) k);
       }
 
+pub holds_none : (t s : ℕ) (cells : List ℕ) {count : ℕ} → count ≡ 0 → Holds count t s None cells
+holds_none t s cells e = record { none = λ _. e; some = λ b no. absurd (true≢false (sym (ap is_some no))) }
+
 holds_size : (count t s : ℕ) (o : Option BlockCode) (cells : List ℕ) → Holds count t s o cells → count * block_size o ≡ count * t
 unfolding block_size
-holds_size count t s None cells h = rw (h, zero-mul, zero-mul)
-holds_size count t s (Some b) cells h = rw h.0
+holds_size count t s None cells h = rw (h.none refl, zero-mul, zero-mul)
+holds_size count t s (Some b) cells h = rw (h.some b refl).0
 
 holds_radius : (count t s : ℕ) (o : Option BlockCode) (cells : List ℕ) → Holds count t s o cells → count * block_radius o ≡ count * s
 unfolding block_radius
-holds_radius count t s None cells h = rw (h, zero-mul, zero-mul)
-holds_radius count t s (Some b) cells h = rw h.1
+holds_radius count t s None cells h = rw (h.none refl, zero-mul, zero-mul)
+holds_radius count t s (Some b) cells h = rw (h.some b refl).1
 
 holds_copies : (count t s : ℕ) (o : Option BlockCode) (cells : List ℕ) → Holds count t s o cells →
     copies count o cells ≡ replicate count (block_of code t s)
 unfolding copies block_in block_of
-holds_copies count t s None cells h = rw h
-holds_copies count t s (Some b) cells h = rw (h.0, h.1, h.2)
+holds_copies count t s None cells h = rw (h.none refl)
+holds_copies count t s (Some b) cells h = let own = h.some b refl in rw (own.0, own.1, own.2)
 
 holds_coded : (count t s : ℕ) (o : Option BlockCode) (cells : List ℕ) → Holds count t s o cells → (b : BlockCode) → o ≡ Some b → Coded b cells
-holds_coded count t s o cells h b e = (rw e at h).3
+holds_coded count t s o cells h b e = (h.some b e).3
 
 -- a last block of t variables
 last_size : (t s : ℕ) (o : Option BlockCode) (cells : List ℕ) → Holds t t s o cells → block_size o ≡ t
 unfolding block_size
-last_size t s None cells h = sym h
-last_size t s (Some b) cells h = h.0
+last_size t s None cells h = sym (h.none refl)
+last_size t s (Some b) cells h = (h.some b refl).0
 
 last_radius : (t s : ℕ) (o : Option BlockCode) (cells : List ℕ) → Holds t t s o cells → block_radius o ≤ s
 unfolding block_radius
 last_radius t s None cells h = omega arith
-last_radius t s (Some b) cells h = omega (arith, h.1)
+last_radius t s (Some b) cells h = omega (arith, (h.some b refl).1)
 
 last_copies : (t s : ℕ) (o : Option BlockCode) (cells : List ℕ) → Holds t t s o cells →
     copies 1 o cells ≡ cond (eqb t 0) [] (block_of code t s ∷ [])
 unfolding copies block_in block_of
-last_copies t s None cells h = rw (eq-eqb t 0 h)
+last_copies t s None cells h = rw (eq-eqb t 0 (h.none refl))
 last_copies t s (Some b) cells h =
-    let some : t ≡ 0 → ⊥ = λ z. omega (arith, h.0, h.3.size) in
-    rw (ne_eqb t 0 some, h.0, h.1, h.2)
+    let own = h.some b refl in
+    let some : t ≡ 0 → ⊥ = λ z. omega (arith, own.0, own.3.size) in
+    rw (ne_eqb t 0 some, own.0, own.1, own.2)
 
 -- The layout that a plan gives fits, and stands for the plan's blocks.
 module _ (p : Plan) (n : ℕ) (l : Layout) (whole last : List ℕ) (e : l.blocks ≡ n / p.size)
@@ -264,3 +303,32 @@ module _ (p : Plan) (n : ℕ) (l : Layout) (whole last : List ℕ) (e : l.blocks
   unfolding blocks_in blocks short_block
   plan_blocks =
       rw e (ap₂ (λ (xs ys : List Block). xs ++ ys) (holds_copies _ _ _ l.whole whole w) (last_copies _ _ l.last last r))
+
+  -- the codes are the plan's
+  pub plan_held : HoldsPlan p n l whole last
+  plan_held = record { count = e; wholes = w; lasts = r }
+
+-- R and M of a plan
+module _ (p : Plan) (n : ℕ) where
+  pub plan_radius : summed_radius (blocks code p n) ≡ n / p.size * p.radius + min p.radius (n % p.size)
+  unfolding blocks block_of short_block summed_radius
+  plan_radius =
+      blocks_radius (n / p.size) (block_of code p.size p.radius) _
+      ∙ ap (λ (x : ℕ). n / p.size * p.radius + x) (last (eqb (n % p.size) 0) refl)
+    where
+      last : (z : Bool) → eqb (n % p.size) 0 ≡ z →
+          summed_radius (cond z [] (short_block code (n % p.size) p.radius ∷ [])) ≡ min p.radius (n % p.size)
+      last true e = omega (arith, eqb-true (n % p.size) 0 e)
+      last false e = add-zero _
+
+  pub plan_centres : centre_count (blocks code p n) ≡
+      length (code p.size p.radius) ^ (n / p.size) * cond (eqb (n % p.size) 0) 1 (length (code (n % p.size) (min p.radius (n % p.size))))
+  unfolding blocks block_of short_block centre_count
+  plan_centres =
+      blocks_count (n / p.size) (block_of code p.size p.radius) _
+      ∙ ap (λ (x : ℕ). length (code p.size p.radius) ^ (n / p.size) * x) (last (eqb (n % p.size) 0))
+    where
+      last : (z : Bool) → centre_count (cond z [] (short_block code (n % p.size) p.radius ∷ [])) ≡
+          cond z 1 (length (code (n % p.size) (min p.radius (n % p.size))))
+      last true = refl
+      last false = mul-one _

@@ -30,28 +30,31 @@ power_some b zero h = rw pow-zero (omega arith)
 power_some b (suc k) h = rw (pow-suc b k) (mul-pos (power_some b k h) h)
 
 -- what k blocks add to R,
+pub blocks_radius : (k : ℕ) (b : Block) (bs : List Block) → summed_radius (replicate k b ++ bs) ≡ k * b.radius + summed_radius bs
+unfolding summed_radius
+blocks_radius zero b bs = rw (zero-mul b.radius) (sym (zero-add _))
+blocks_radius (suc k) b bs = omega (arith, blocks_radius k b bs, suc-mul k b.radius)
+
 copies_radius : (k : ℕ) (o : Option BlockCode) (cells : List ℕ) (bs : List Block) →
     summed_radius (copies k o cells ++ bs) ≡ k * block_radius o + summed_radius bs
-unfolding copies block_in block_radius summed_radius
+unfolding copies block_in block_radius
 copies_radius k None cells bs = rw (mul-zero k) (sym (zero-add _))
-copies_radius k (Some b) cells bs = go k
-  where
-    go : (k : ℕ) → summed_radius (replicate k (block_in b cells) ++ bs) ≡ k * b.radius + summed_radius bs
-    go zero = rw (zero-mul b.radius) (sym (zero-add _))
-    go (suc k) = omega (arith, go k, suc-mul k b.radius)
+copies_radius k (Some b) cells bs = blocks_radius k (block_in b cells) bs
 
 -- and by what they multiply M
+pub blocks_count : (k : ℕ) (b : Block) (bs : List Block) → centre_count (replicate k b ++ bs) ≡ length b.code ^ k * centre_count bs
+unfolding centre_count
+blocks_count zero b bs = rw pow-zero (sym (one-mul (centre_count bs)))
+blocks_count (suc k) b bs =
+    rw (blocks_count k b bs, pow-suc)
+    (sym (mul_assoc (length b.code) _ _) ∙ ap (λ (x : ℕ). x * centre_count bs) (mul_comm (length b.code) _))
+
 copies_count : (k : ℕ) (o : Option BlockCode) (cells : List ℕ) → ((b : BlockCode) → o ≡ Some b → Coded b cells) → (bs : List Block) →
     centre_count (copies k o cells ++ bs) ≡ block_words o ^ k * centre_count bs
-unfolding copies block_words centre_count
+unfolding copies block_words
 copies_count k None cells coded bs = rw (one_power k) (sym (one-mul (centre_count bs)))
-copies_count k (Some b) cells coded bs = go k
-  where
-    go : (k : ℕ) → centre_count (replicate k (block_in b cells) ++ bs) ≡ b.count ^ k * centre_count bs
-    go zero = rw pow-zero (sym (one-mul (centre_count bs)))
-    go (suc k) =
-        rw (words_counted b cells (coded b refl), go k, pow-suc)
-        (sym (mul_assoc b.count _ _) ∙ ap (λ (x : ℕ). x * centre_count bs) (mul_comm b.count _))
+copies_count k (Some b) cells coded bs =
+    blocks_count k (block_in b cells) bs ∙ rw (words_counted b cells (coded b refl)) refl
 
 -- and one block alone
 one_radius : (o : Option BlockCode) (cells : List ℕ) → summed_radius (copies 1 o cells) ≡ block_radius o

@@ -1,8 +1,8 @@
 -- The codes that the machine holds for blocks: their numbers, and the words in the tables.
-use Rattle.std.specs.Prelude.{◌≡◌, Option, None, Some, List, [], ◌++◌, ℕ, ◌+◌, ◌*◌, ◌^◌, ◌≤◌, ◌<◌, length, get_or, take, replicate}
+use Rattle.std.specs.Prelude.{◌≡◌, Option, None, Some, List, [], ◌++◌, ℕ, ◌+◌, ◌*◌, ◌/◌, ◌%◌, ◌^◌, ◌≤◌, ◌<◌, min, length, get_or, take, replicate}
 use Rattle.words.specs.Bits.{width}
 use Rattle.code.specs.Code.{code}
-use Rattle.search.specs.Run.{Block}
+use Rattle.search.specs.Run.{Plan, Block}
 use Rattle.search.specs.declared.block_code.BlockCode.{BlockCode}
 use Rattle.search.specs.declared.layout.Layout.{Layout}
 
@@ -59,7 +59,13 @@ pub record Laid (l : Layout) (whole last : List ℕ) : Type 0 where
   pub wholes : (b : BlockCode) → l.whole ≡ Some b → Coded b whole
   pub lasts : (b : BlockCode) → l.last ≡ Some b → Coded b last
 
--- There are blocks of length t and radius s (`count` of them), and the cells begin with their code; or there is none.
-abbrev pub Holds : (count t s : ℕ) → Option BlockCode → List ℕ → Type 0
-Holds count t s None cells = count ≡ 0
-Holds count t s (Some b) cells = (b.size ≡ t) × (b.radius ≡ s) × (take b.count cells ≡ code t s) × Coded b cells
+-- Where there are blocks of length t and radius s (`count` of them), the cells begin with their code.
+pub record Holds (count t s : ℕ) (o : Option BlockCode) (cells : List ℕ) : Type 0 where
+  pub none : o ≡ None → count ≡ 0
+  pub some : (b : BlockCode) → o ≡ Some b → (b.size ≡ t) × (b.radius ≡ s) × (take b.count cells ≡ code t s) × Coded b cells
+
+-- The codes of a plan for n variables: of its whole blocks, and of the shorter last one.
+pub record HoldsPlan (p : Plan) (n : ℕ) (l : Layout) (whole last : List ℕ) : Type 0 where
+  pub count : l.blocks ≡ n / p.size
+  pub wholes : Holds (n / p.size) p.size p.radius l.whole whole
+  pub lasts : Holds (n % p.size) (n % p.size) (min p.radius (n % p.size)) l.last last

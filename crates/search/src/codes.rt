@@ -27,6 +27,7 @@ impl Codes {
     ghost use Rattle.std.specs.Prelude.{min};
     ghost use Rattle.code.specs.Code.{code};
     ghost use Rattle.search.specs.Run.{blocks, summed_radius, centre_count};
+    ghost use Rattle.search.specs.Blocks.{HoldsPlan};
     ghost use Rattle.search.specs.Machine.{plan_in, blocks_of, most_centres, CentreFound};
 
     // Of no variables yet. A value of 16 KB: it is made where it stays, and laid out there.
@@ -34,6 +35,7 @@ impl Codes {
     pub fn empty(plan: Plan) -> Codes
         ensures named { (result.n ≡ 0) × (result.plan ≡ plan) }
         ensures laid { blocks_of result ≡ blocks code (plan_in plan) 0 }
+        ensures held { HoldsPlan (plan_in plan) 0 result.layout result.whole_words result.last_words }
     {
         Codes {
             n: 0,
@@ -53,6 +55,7 @@ impl Codes {
         requires { n ≤ width }
         ensures named { (self.new.n ≡ n) × (self.new.plan ≡ self.old.plan) }
         ensures laid { blocks_of self.new ≡ blocks code (plan_in self.old.plan) n }
+        ensures held { HoldsPlan (plan_in self.old.plan) n self.new.layout self.new.whole_words self.new.last_words }
     {
         let plan = self.plan;
         self.n = n;

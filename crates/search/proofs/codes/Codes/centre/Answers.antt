@@ -1,4 +1,4 @@
-use Rattle.std.proofs.Common.{refl, ◌≡◌}
+use Rattle.std.proofs.Common.{refl}
 use Rattle.std.specs.Prelude.{[]}
 use Rattle.search.specs.Machine.{Midway, Towards, blocks_of}
 use Rattle.search.proofs.CodesLaws.{midway_start, midway_room, midway_step, midway_all, midway_without, midway_rest, midway_none, midway_one, centre_found, centre_past}
@@ -39,21 +39,16 @@ with_block-made-requires-in-Some-last c =
     }
 
 -- after all blocks
-joint : (c : Joined-self-2) →
-    Towards (blocks_of c.args.self.now) c.args.i [] c.match-self-2.made × (c.match-self-2.made.shift ≡ c.args.self.now.n)
+joint : (c : Joined-self-2) → Towards (blocks_of c.args.self.now) c.args.i [] c.match-self-2.made
 joint c = elim c.match-self-2.branch [
   | in-Some-last w ↦
       rw w.made-is
-      (midway_one c.args.self.now c.args.i _ (wholes c.before) w.in-Some-last.last w.in-Some-last.is _ w.with_block-made-in-Some-last.ensures)
-  | in_default-last w ↦ rw w.made-is (midway_none c.args.self.now c.args.i _ (wholes c.before) w.in_default-last.is)
+      (midway_one c.args.self.now c.args.i _ (wholes c.before) w.in-Some-last.last w.in-Some-last.is _ w.with_block-made-in-Some-last.ensures).0
+  | in_default-last w ↦ rw w.made-is (midway_none c.args.self.now c.args.i _ (wholes c.before) w.in_default-last.is).0
 ]
 
 pub returns-then-made-eq0 : goal.returns-then-made-eq0
-returns-then-made-eq0 c =
-    let done = joint c.before.before.before in
-    centre_found c.args.self.now c.args.i _ done.0 done.1 c.if-made-eq0.true
+returns-then-made-eq0 c = centre_found c.args.self.now c.args.i _ (joint c.before.before.before) c.if-made-eq0.true
 
 pub returns-else-made-eq0 : goal.returns-else-made-eq0
-returns-else-made-eq0 c =
-    let done = joint c.before.before in
-    centre_past c.args.self.now c.args.i _ done.0 done.1 c.if-made-eq0.false
+returns-else-made-eq0 c = centre_past c.args.self.now c.args.i _ (joint c.before.before) c.if-made-eq0.false
